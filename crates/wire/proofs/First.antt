@@ -1,0 +1,63 @@
+-- `first`: the rules by which `search` follows a chain of tests. Where a definition is `cond t₁ n₁ (cond t₂ n₂ ..)` and the
+-- code has a `return` for each test in the same order, every `return` is answered by `search first depth 30 fits 4000`.
+use Prim.Native.Nat.{ℕ, suc, _≤_, _<_}
+use native.Mathlib.Omega.{arith}
+use mathlib.Core.Bool.{Bool, true, false, not, cond}
+use mathlib.Core.Path.{_≡_, refl, sym, ap, _∙_}
+use lib.Dec.{leb, ltb, eqb}
+use borrow.Author.Tests.{lt-ltb, le-ltb, le-leb, lt-leb, eq-eqb, ne-eqb, not-false}
+
+-- the test that holds decides
+pub take-it : {A : Type 0} (t : Bool) (k rest : A) → t ≡ true → k ≡ cond t k rest
+take-it t k rest e = rw e
+
+-- a test that fails hands on to the next
+pub skip-it : {A : Type 0} (t : Bool) (k rest r : A) → t ≡ false → r ≡ rest → r ≡ cond t k rest
+skip-it t k rest r e h = rw e h
+
+-- a test that a call answered: what it returned is the definition's, and the branch went one way
+pub told : (x t b : Bool) → x ≡ t → x ≡ b → t ≡ b
+told x t b p q = sym p ∙ q
+
+pub told-not : (x t b : Bool) → x ≡ t → not x ≡ b → not t ≡ b
+told-not x t b p q = sym (ap not p) ∙ q
+
+pub told-good : (x t : Bool) → x ≡ t → not x ≡ false → t ≡ true
+told-good x t p q = sym p ∙ not-false x q
+
+pub not-true-it : (t : Bool) → t ≡ false → not t ≡ true
+not-true-it t e = ap not e
+
+pub not-false-it : (t : Bool) → t ≡ true → not t ≡ false
+not-false-it t e = ap not e
+
+-- a comparison of a number that a call returned
+pub eq-told : (x y k : ℕ) → x ≡ y → x ≡ k → eqb y k ≡ true
+eq-told x y k p q = eq-eqb y k (sym p ∙ q)
+
+pub ne-told : (x y k : ℕ) → x ≡ y → (x ≡ k → ⊥) → eqb y k ≡ false
+ne-told x y k p q = ne-eqb y k (λ e. q (p ∙ e))
+
+pub lt-told : (x y k : ℕ) → x ≡ y → x < k → ltb y k ≡ true
+lt-told x y k p q = rw (← p) (lt-ltb x k q)
+
+pub le-told : (x y k : ℕ) → x ≡ y → k ≤ x → ltb y k ≡ false
+le-told x y k p q = rw (← p) (le-ltb x k q)
+
+pub told-lt : (x y k : ℕ) → x ≡ y → k < x → ltb k y ≡ true
+told-lt x y k p q = rw (← p) (lt-ltb k x q)
+
+pub told-le : (x y k : ℕ) → x ≡ y → x ≤ k → ltb k y ≡ false
+told-le x y k p q = rw (← p) (le-ltb k x q)
+
+pub ruleset first = (told-not, told-good, eq-told, ne-told, lt-told, le-told, told-lt, told-le, take-it, skip-it, told, not-true-it, not-false-it, lt-ltb, le-ltb, le-leb, lt-leb, eq-eqb, ne-eqb)
+
+-- what holds of each way out of a test holds of the whole
+pub cond-cases : {A : Type 0} (P : A → Type 0) (b : Bool) (x y : A) → (b ≡ true → P x) → (b ≡ false → P y) → P (cond b x y)
+cond-cases P true x y f g = f refl
+cond-cases P false x y f g = g refl
+
+-- where a chain of tests comes out below its first number, the first test failed
+pub passed : (t : Bool) (k rest : ℕ) → cond t (suc k) rest ≡ 0 → (t ≡ false) × (rest ≡ 0)
+passed true k rest e = absurd (omega arith)
+passed false k rest e = (refl, e)

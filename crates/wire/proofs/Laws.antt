@@ -1,0 +1,207 @@
+-- Laws of numbers in bytes and of replaced parts, each stated once for every width: what was written is read back, and
+-- the bytes outside stay.
+use Prim.Native.Nat.{ℕ, zero, suc, _+_, _*_, _/_, _%_, _^_, _-_, _≤_, _<_}
+use mathlib.Core.Path.{_≡_, refl, sym, ap, _∙_}
+use mathlib.Core.List.{List, [], _∷_, _++_, append-assoc}
+use native.Mathlib.Omega.{arith}
+use native.Mathlib.Nat.{add-assoc, zero-add, add-zero, pow-suc, mod-lt, div-add-mod', div-lt-iff-lt-mul, one-le-pow}
+use native.Mathlib.Numerals.{add-one}
+use lib.Pow.{pow-add}
+use lib.Dec.{lit≤}
+use lib.ListN.{length, getD, take, drop, set, length-append, length-take, length-drop, length-set, drop-of-length-le, List·getD-eq-default, List·getD-append}
+use lib.Seq.{take-at, drop-at, drop-drop, getD-take, getD-drop, getD-append-add, length-take-le, set-append-left, sets, sets-eq, paste, paste-suc, take-append-seam, take-length}
+use Rattle.wire.specs.Numbers.{byteAt, be, bytes}
+use Rattle.wire.specs.Parts.{part, splice}
+
+-- the powers that widths bring
+double : (d : ℕ) → 2 ^ suc d ≡ 2 ^ d + 2 ^ d
+double d = omega (arith, pow-suc 2 d)
+
+base-double : (d : ℕ) → 256 ^ (2 ^ suc d) ≡ 256 ^ (2 ^ d) * 256 ^ (2 ^ d)
+base-double d = ap (λ (n : ℕ). 256 ^ n) (double d) ∙ pow-add 256 (2 ^ d) (2 ^ d)
+
+pub length-bytes : (d v : ℕ) → length (bytes d v) ≡ 2 ^ d
+unfolding bytes
+length-bytes zero v = refl
+length-bytes (suc d) v =
+    rw (length-append, length-bytes d (v / 256 ^ (2 ^ d)), length-bytes d (v % 256 ^ (2 ^ d))) (sym (double d))
+
+length-bytes-front : (d v : ℕ) → 0 + 2 ^ d ≡ length (bytes d v) + 0
+length-bytes-front d v = omega (arith, length-bytes d v)
+
+bytes-halves : (d v : ℕ) → bytes (suc d) v ≡ bytes d (v / 256 ^ (2 ^ d)) ++ bytes d (v % 256 ^ (2 ^ d))
+unfolding bytes
+bytes-halves d v = refl
+
+-- a number past the end is 0
+pub be-past : (d : ℕ) (s : List ℕ) (at : ℕ) → length s ≤ at → be d s at ≡ 0
+unfolding be
+be-past zero s at h = List·getD-eq-default s 0 h
+be-past (suc d) s at h = rw (be-past d s at h, be-past d s (at + 2 ^ d) (omega arith)) (omega arith)
+
+-- two lists that agree on the bytes of a number hold the same number
+pub be-same : (d : ℕ) (s t : List ℕ) (i j : ℕ) → ((k : ℕ) → k < 2 ^ d → byteAt s (i + k) ≡ byteAt t (j + k)) → be d s i ≡ be d t j
+unfolding be
+be-same zero s t i j f = rw (add-zero, add-zero) at (f 0 (omega arith))
+be-same (suc d) s t i j f =
+    rw (
+      be-same d s t i j (λ k h. f k (omega (arith, double d))),
+      be-same d s t (i + 2 ^ d) (j + 2 ^ d) (λ k h. rw (← add-assoc, ← add-assoc) at (f (2 ^ d + k) (omega (arith, double d)))),
+    )
+
+-- the number that a list of bytes holds inside a part of it
+pub be-part : (d : ℕ) (s : List ℕ) (at n j : ℕ) → j + 2 ^ d ≤ n → be d (part at n s) j ≡ be d s (at + j)
+be-part d s at n j h =
+    be-same d (part at n s) s j (at + j)
+    (λ k l. let b : j + k < n = omega arith in rw (getD-take, getD-drop, ← add-assoc))
+
+splice-is : (s : List ℕ) (at : ℕ) (xs : List ℕ) → splice s at xs ≡ take at s ++ xs ++ drop (at + length xs) s
+unfolding splice
+splice-is s at xs = refl
+
+-- a part replaced
+module _ (s : List ℕ) (at : ℕ) (xs : List ℕ) (fits : at + length xs ≤ length s) where
+  length-front : length (take at s) ≡ at
+  length-front = length-take-le at s (omega arith)
+
+  length-head : length (take at s ++ xs) ≡ at + length xs
+  length-head = simp (length-append, length-front)
+
+  pub length-splice : length (splice s at xs) ≡ length s
+  unfolding splice
+  length-splice = simp (length-append, length-front, length-drop) (omega arith)
+
+  -- the bytes before, within and after it
+  pub byte-before : (j : ℕ) → j < at → byteAt (splice s at xs) j ≡ byteAt s j
+  unfolding splice
+  byte-before j h =
+      List·getD-append (take at s ++ xs) (drop (at + length xs) s) 0 j (omega (arith, length-head))
+      ∙ List·getD-append (take at s) xs 0 j (omega (arith, length-front))
+      ∙ getD-take at s j 0 h
+
+  pub byte-within : (j : ℕ) → j < length xs → byteAt (splice s at xs) (at + j) ≡ byteAt xs j
+  unfolding splice
+  byte-within j h =
+      List·getD-append (take at s ++ xs) (drop (at + length xs) s) 0 (at + j) (omega (arith, length-head))
+      ∙ ap (λ (n : ℕ). byteAt (take at s ++ xs) (n + j)) (sym length-front)
+      ∙ getD-append-add (take at s) xs j 0
+
+  pub byte-after : (j : ℕ) → at + length xs ≤ j → byteAt (splice s at xs) j ≡ byteAt s j
+  unfolding splice
+  byte-after j h =
+      let k : ℕ = j - (at + length xs) in
+      let e : j ≡ at + length xs + k = omega arith in
+      rw e
+      (ap (λ (n : ℕ). byteAt (take at s ++ xs ++ drop (at + length xs) s) (n + k)) (sym length-head)
+      ∙ getD-append-add (take at s ++ xs) (drop (at + length xs) s) k 0
+      ∙ getD-drop (at + length xs) s k 0)
+
+  -- the number before, within and after it
+  pub be-before : (d j : ℕ) → j + 2 ^ d ≤ at → be d (splice s at xs) j ≡ be d s j
+  be-before d j h = be-same d (splice s at xs) s j j (λ k l. byte-before (j + k) (omega arith))
+
+  pub be-within : (d j : ℕ) → j + 2 ^ d ≤ length xs → be d (splice s at xs) (at + j) ≡ be d xs j
+  be-within d j h =
+      be-same d (splice s at xs) xs (at + j) j (λ k l. rw add-assoc (byte-within (j + k) (omega arith)))
+
+  pub be-after : (d j : ℕ) → at + length xs ≤ j → be d (splice s at xs) j ≡ be d s j
+  be-after d j h = be-same d (splice s at xs) s j j (λ k l. byte-after (j + k) (omega arith))
+
+  -- the part itself, and what is taken up to its end
+  pub part-splice : part at (length xs) (splice s at xs) ≡ xs
+  unfolding splice
+  part-splice =
+      rw (append-assoc, drop-at (take at s) (xs ++ drop (at + length xs) s) at length-front)
+      (take-append-seam xs (drop (at + length xs) s))
+
+  pub take-splice : take (at + length xs) (splice s at xs) ≡ take at s ++ xs
+  unfolding splice
+  take-splice = take-at (take at s ++ xs) (drop (at + length xs) s) (at + length xs) length-head
+
+  pub drop-splice : drop (at + length xs) (splice s at xs) ≡ drop (at + length xs) s
+  unfolding splice
+  drop-splice = drop-at (take at s ++ xs) (drop (at + length xs) s) (at + length xs) length-head
+
+  -- a second part right behind the first: together they are one
+  pub splice-join : (ys : List ℕ) → splice (splice s at xs) (at + length xs) ys ≡ splice s at (xs ++ ys)
+  splice-join ys =
+      rw (
+        splice-is (splice s at xs) (at + length xs) ys,
+        take-splice,
+        ← drop-drop (length ys) (at + length xs) (splice s at xs),
+        drop-splice,
+        drop-drop (length ys) (at + length xs) s,
+        splice-is s at (xs ++ ys),
+        length-append xs ys,
+      )
+      (simp (append-assoc, add-assoc))
+
+-- from the front, what is replaced is a beginning
+pub splice-front : (s xs : List ℕ) → splice s 0 xs ≡ xs ++ drop (length xs) s
+unfolding splice
+splice-front s xs = rw zero-add
+
+-- a number within the first of two lists, or within the second
+pub be-first : (d : ℕ) (a b : List ℕ) (j : ℕ) → j + 2 ^ d ≤ length a → be d (a ++ b) j ≡ be d a j
+be-first d a b j h = be-same d (a ++ b) a j j (λ k l. List·getD-append a b 0 (j + k) (omega arith))
+
+pub be-second : (d : ℕ) (a b : List ℕ) (j : ℕ) → be d (a ++ b) (length a + j) ≡ be d b j
+be-second d a b j = be-same d (a ++ b) b (length a + j) j (λ k l. rw add-assoc (getD-append-add a b (j + k) 0))
+
+-- the bytes of a number hold it
+pub be-bytes : (d v : ℕ) → v < 256 ^ (2 ^ d) → be d (bytes d v) 0 ≡ v
+unfolding be bytes
+be-bytes zero v h = refl
+be-bytes (suc d) v h =
+    let B : ℕ = 256 ^ (2 ^ d) in
+    let pos : 0 < B = one-le-pow (2 ^ d) 256 (lit≤ tt) in
+    let hi : List ℕ = bytes d (v / B) in
+    let lo : List ℕ = bytes d (v % B) in
+    let above : v / B < B = div-lt-iff-lt-mul pos .1 (rw base-double at h) in
+    rw (
+      be-first d hi lo 0 (omega (arith, length-bytes d (v / B))),
+      be-bytes d (v / B) above,
+      ap (λ (n : ℕ). be d (hi ++ lo) n) (length-bytes-front d (v / B)),
+      be-second d hi lo 0,
+      be-bytes d (v % B) (mod-lt v pos),
+    )
+    (div-add-mod' v B)
+
+-- a store is a part of one byte
+pub set-splice : (s : List ℕ) (at v : ℕ) → at < length s → set s at v ≡ splice s at (v ∷ [])
+unfolding splice
+set-splice s at v h = sets-eq (v ∷ []) s at (omega arith)
+
+-- a number's two halves written one behind the other are the number written
+pub halves-written : (d : ℕ) (s t u : List ℕ) (at v : ℕ) → at + 2 ^ suc d ≤ length s → t ≡ splice s at (bytes d (v / 256 ^ (2 ^ d)))
+    → u ≡ splice t (at + 2 ^ d) (bytes d (v % 256 ^ (2 ^ d))) → u ≡ splice s at (bytes (suc d) v)
+halves-written d s t u at v h e f =
+    let hi : List ℕ = bytes d (v / 256 ^ (2 ^ d)) in
+    let lo : List ℕ = bytes d (v % 256 ^ (2 ^ d)) in
+    rw (f, e, ap (λ (n : ℕ). splice (splice s at hi) (at + n) lo) (sym (length-bytes d (v / 256 ^ (2 ^ d)))))
+    (splice-join s at hi (omega (arith, double d, length-bytes d (v / 256 ^ (2 ^ d)))) lo ∙ ap (splice s at) (sym (bytes-halves d v)))
+
+-- two stores side by side are a number of two bytes written
+pub pair-stored : (s : List ℕ) (at v : ℕ) → at + 2 ≤ length s → set (set s at (v / 256)) (at + 1) (v % 256) ≡ splice s at (bytes 1 v)
+unfolding bytes
+pair-stored s at v h =
+    let t : List ℕ = set s at (v / 256) in
+    halves-written 0 s t (set t (at + 1) (v % 256)) at v h
+    (set-splice s at (v / 256) (omega arith))
+    (set-splice t (at + 1) (v % 256) (simp length-set (omega arith)))
+
+-- what was written is read back
+pub be-written : (d : ℕ) (s : List ℕ) (at v : ℕ) → at + 2 ^ d ≤ length s → v < 256 ^ (2 ^ d) → be d (splice s at (bytes d v)) at ≡ v
+be-written d s at v h k =
+    ap (be d (splice s at (bytes d v))) (sym (add-zero at))
+    ∙ be-within s at (bytes d v) (omega (arith, length-bytes d v)) d 0 (omega (arith, length-bytes d v))
+    ∙ be-bytes d v k
+
+-- copying byte by byte: after j bytes the destination is the old one with the first j pasted in
+pub copied-more : (d s l : List ℕ) (at j : ℕ) → l ≡ paste d at s j → at + length s ≤ length d → j < length s
+    → set l (at + j) (byteAt s j) ≡ paste d at s (j + 1)
+copied-more d s l at j e h k = rw (e, add-one) (paste-suc d at s j 0 (omega arith) k)
+
+pub copied-all : (d s l : List ℕ) (at j : ℕ) → l ≡ paste d at s j → j ≤ length s → length s ≤ j → l ≡ splice d at s
+unfolding splice
+copied-all d s l at j e h k = let q : j ≡ length s = omega arith in e ∙ rw (q, take-length)

@@ -1,0 +1,20 @@
+-- `put64`: two halves side by side are the number written (`halves-written`).
+use Rattle.wire.proofs.Laws.{halves-written}
+use borrow.Author.Needs.{needs}
+use Rattle.wire.proofs.put64.Statement.{statement}
+use Rattle.wire.proofs.put64.Tie as tie
+
+returns : tie.Need-returns
+returns c = search (halves-written 2)
+
+pub put64-spec : {M : Type 1} → statement M
+put64-spec =
+    tie.close
+    (tie.spec
+    (λ c. search needs)
+    (λ c κs. search needs)
+    (λ c. search needs)
+    (λ c. search needs)
+    (λ c κs. search needs)
+    (λ c. search needs)
+    returns)
