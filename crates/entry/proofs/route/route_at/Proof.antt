@@ -1,0 +1,44 @@
+-- `route_at`: each field by its reader.
+use Rattle.entry.specs.Route.{routeAt}
+use borrow.Author.Needs.{needs}
+use Rattle.entry.proofs.route.route_at.Statement.{statement}
+use Rattle.entry.proofs.route.route_at.Tie as tie
+
+returns : tie.Need-returns
+unfolding routeAt
+returns c = cc
+
+pub route-at-spec : {M : Type 1} → statement M
+route-at-spec =
+    tie.close
+    (tie.spec
+    (λ c. search needs)
+    (λ c. search needs)
+    (λ c. search needs)
+    (λ c. search needs)
+    (λ c. search needs)
+    (λ c. search needs)
+    (λ c. search needs)
+    (λ c. search needs)
+    (λ c κs. search needs)
+    (λ c. search needs)
+    (λ c κs. search needs)
+    (λ c. search needs)
+    (λ c κs. search needs)
+    (λ c. search needs)
+    (λ c κs. search needs)
+    (λ c. search needs)
+    (λ c κs. search needs)
+    (λ c. search needs)
+    (λ c κs. search needs)
+    (λ c. search needs)
+    (λ c κs. search needs)
+    (λ c. search needs)
+    (λ c κs. search needs)
+    (λ c. search needs)
+    (λ c κs. search needs)
+    (λ c. search needs)
+    (λ c κs. search needs)
+    (λ c. search needs)
+    (λ c κs. search needs)
+    returns)

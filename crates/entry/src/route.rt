@@ -1,0 +1,113 @@
+// A route entry.
+use crate::prefix::zero_past;
+ghost use mathlib.Core.Path.{_≡_};
+ghost use Prim.Native.Nat.{_+_, _≤_};
+ghost use lib.ListN.{length};
+ghost use Rattle.entry.specs.Route.{routeAt, routeOk, kindOk, lengthOk, flagsOk, groupOk, incomingOk, upstreamOk, mapOk};
+
+pub struct Route {
+    pub kind: u8,
+    pub length: u8,
+    pub flags: u8,
+    pub zero: u8,
+    pub source: u32,
+    pub group: u32,
+    pub upstream: u32,
+    pub incoming: u16,
+    pub protocol: u16,
+    pub multicast: u16,
+    pub zeros: u16,
+    pub packets: u64,
+    pub forward: u64,
+    pub pruned: u64,
+    pub stopped: u64,
+}
+
+// The route whose 56 bytes begin at `at`.
+pub fn route_at(s: &[u8], at: usize) -> Route
+    requires { ⌜ at + 56 ≤ length (now s) ⌝ }
+    ensures { λ r. ⌜ r ≡ routeAt (now (s .entry)) at ⌝ }
+{
+    Route {
+        kind: s[at],
+        length: s[at + 1],
+        flags: s[at + 2],
+        zero: s[at + 3],
+        source: wire::be32(s, at + 4),
+        group: wire::be32(s, at + 8),
+        upstream: wire::be32(s, at + 12),
+        incoming: wire::be16(s, at + 16),
+        protocol: wire::be16(s, at + 18),
+        multicast: wire::be16(s, at + 20),
+        zeros: wire::be16(s, at + 22),
+        packets: wire::be64(s, at + 24),
+        forward: wire::be64(s, at + 32),
+        pruned: wire::be64(s, at + 40),
+        stopped: wire::be64(s, at + 48),
+    }
+}
+
+fn kind_ok(kind: u8) -> bool
+    ensures { λ r. ⌜ r ≡ kindOk kind ⌝ }
+{
+    (1 <= kind) & (kind <= 3)
+}
+
+fn length_ok(kind: u8, length: u8) -> bool
+    ensures { λ r. ⌜ r ≡ lengthOk kind length ⌝ }
+{
+    (length <= 32) & ((length == 0) | (kind != 2)) & ((1 <= length) | (kind != 1))
+}
+
+fn flags_ok(kind: u8, flags: u8) -> bool
+    ensures { λ r. ⌜ r ≡ flagsOk kind flags ⌝ }
+{
+    (flags <= 3) & ((flags % 2 == 0) | (kind == 2))
+}
+
+fn group_ok(kind: u8, group: u32) -> bool
+    ensures { λ r. ⌜ r ≡ groupOk kind group ⌝ }
+{
+    ((kind == 3) & (group == 0)) | ((kind != 3) & wire::multicast(group))
+}
+
+fn incoming_ok(interfaces: u16, incoming: u16) -> bool
+    ensures { λ r. ⌜ r ≡ incomingOk interfaces incoming ⌝ }
+{
+    (incoming < interfaces) | (incoming == 65535)
+}
+
+fn upstream_ok(incoming: u16, upstream: u32) -> bool
+    ensures { λ r. ⌜ r ≡ upstreamOk incoming upstream ⌝ }
+{
+    (upstream == 0) | ((incoming != 65535) & (wire::unicast(upstream) | wire::all_ones(upstream)))
+}
+
+fn map_ok(interfaces: u16, map: u64) -> bool
+    requires { ⌜ interfaces ≤ 64 ⌝ }
+    ensures { λ r. ⌜ r ≡ mapOk interfaces map ⌝ }
+{
+    if interfaces == 64 {
+        return true;
+    }
+    map < 1 << interfaces
+}
+
+// Whether a route keeps every rule on it, where there are so many interfaces.
+pub fn route_ok(interfaces: u16, r: Route) -> bool
+    requires { ⌜ interfaces ≤ 64 ⌝ }
+    ensures { λ ok. ⌜ ok ≡ routeOk interfaces r ⌝ }
+{
+    kind_ok(r.kind)
+        & length_ok(r.kind, r.length)
+        & flags_ok(r.kind, r.flags)
+        & (r.zero == 0)
+        & (r.zeros == 0)
+        & zero_past(r.length, r.source)
+        & group_ok(r.kind, r.group)
+        & upstream_ok(r.incoming, r.upstream)
+        & incoming_ok(interfaces, r.incoming)
+        & map_ok(interfaces, r.forward)
+        & map_ok(interfaces, r.pruned)
+        & map_ok(interfaces, r.stopped)
+}
