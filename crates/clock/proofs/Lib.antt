@@ -1,0 +1,5 @@
+-- Laws over the clock's definitions, for all readings whatever.
+pub mod Tests
+pub mod Laws
+pub mod Determined
+pub mod Worked

@@ -1,0 +1,40 @@
+-- A clock over a list of readings: the clock it comes to, and the times it issues.
+use Prim.Native.Nat.{ℕ, _≤_}
+use mathlib.Core.Bool.{cond}
+use mathlib.Core.List.{List, [], _∷_}
+use lib.Dec.{eqb}
+use Rattle.clock.specs.declared.Clock.{Clock}
+use Rattle.clock.specs.Clock.{last, advanceOf}
+
+-- the clock after a list of readings; a refused reading leaves it as it was
+unfoldable pub after : Clock → List ℕ → Clock
+after c [] = c
+after c (t ∷ ts) = after (advanceOf c t .clock) ts
+
+-- an accepted reading and the time issued for it
+pub record Issue : Type 0 where
+  pub reading : ℕ
+  pub time : ℕ
+
+-- what a clock issues over a list of readings, in order; a refused reading issues nothing
+unfoldable pub issues : Clock → List ℕ → List Issue
+issues c [] = []
+issues c (t ∷ ts) =
+    let later : List Issue = issues (advanceOf c t .clock) ts in
+    let here : List Issue = record { reading = t; time = advanceOf c t .time } ∷ later in
+    cond (eqb (advanceOf c t .number) 0) here later
+
+-- a clock as starting and advancing make it: the last issued time is at least the last reading, and in range
+pub record Sound (c : Clock) : Type 0 where
+  pub leads : c .r ≤ c .y
+  pub within : c .y ≤ last
+
+-- readings that do not fall, from r on, all in range
+abbrev pub Rising : ℕ → List ℕ → Type 0
+Rising r [] = Unit {0}
+Rising r (t ∷ ts) = (r ≤ t) × (t ≤ last) × Rising t ts
+
+-- times that never fall below y or below one another, each at least its reading
+abbrev pub NeverFall : ℕ → List Issue → Type 0
+NeverFall y [] = Unit {0}
+NeverFall y (i ∷ is) = (y ≤ i .time) × (i .reading ≤ i .time) × NeverFall (i .time) is

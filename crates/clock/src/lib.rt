@@ -1,0 +1,139 @@
+// A clock that follows its host forwards, never goes back, and works off a lead at half rate.
+ghost use mathlib.Core.Path.{_≡_};
+ghost use Prim.Native.Nat.{_≤_, min, max};
+ghost use Rattle.clock.specs.Clock.{last, timeFor, startOf, advanceOf, arrivalOf};
+ghost use Rattle.clock.specs.Unix.{unixOf};
+
+// The last reading r and the last issued time y, in units of 1/65536 s since NTP era 0.
+pub struct Clock {
+    pub r: u64,
+    pub y: u64,
+}
+
+// What a reading gave: the number (0, or why it was refused), the clock to go on with, the time issued.
+pub struct Tick {
+    pub number: u32,
+    pub clock: Clock,
+    pub time: u64,
+}
+
+// A UNIX time in units, or 0 beside the number 32.
+pub struct Units {
+    pub number: u32,
+    pub units: u64,
+}
+
+// The last time there is.
+const LAST: u64 = 281474976710655;
+
+fn smaller(a: u64, b: u64) -> u64
+    ensures { λ r. ⌜ r ≡ min a b ⌝ }
+{
+    if a < b { a } else { b }
+}
+
+fn larger(a: u64, b: u64) -> u64
+    ensures { λ r. ⌜ r ≡ max a b ⌝ }
+{
+    if a < b { b } else { a }
+}
+
+impl Clock {
+    // A clock that starts from a reading, and issues it.
+    pub fn start(reading: u64) -> Tick
+        ensures { λ k. ⌜ k ≡ startOf reading ⌝ }
+    {
+        if LAST < reading {
+            return Tick {
+                number: 31,
+                clock: Clock { r: 0, y: 0 },
+                time: 0,
+            };
+        }
+        Tick {
+            number: 0,
+            clock: Clock {
+                r: reading,
+                y: reading,
+            },
+            time: reading,
+        }
+    }
+
+    // The clock at a new reading, with the time issued for it.
+    pub fn advance(self, t: u64) -> Tick
+        ensures { λ k. ⌜ k ≡ advanceOf self t ⌝ }
+    {
+        let r = self.r;
+        let y = self.y;
+        if y < r {
+            return Tick {
+                number: 33,
+                clock: self,
+                time: 0,
+            };
+        }
+        if LAST < y {
+            return Tick {
+                number: 33,
+                clock: self,
+                time: 0,
+            };
+        }
+        if LAST < t {
+            return Tick {
+                number: 31,
+                clock: self,
+                time: 0,
+            };
+        }
+        let time = self.time_for(t);
+        Tick {
+            number: 0,
+            clock: Clock { r: t, y: time },
+            time,
+        }
+    }
+
+    // The time issued for a reading that is accepted.
+    fn time_for(self, t: u64) -> u64
+        requires { ⌜ (self .y ≤ last) × (t ≤ last) ⌝ }
+        ensures { λ y. ⌜ y ≡ timeFor self t ⌝ }
+    {
+        let r = self.r;
+        let y = self.y;
+        if t < r {
+            return y;
+        }
+        smaller(LAST, larger(t, y + (t - r) / 2))
+    }
+}
+
+// UNIX time to units.
+pub fn unix(seconds: u64, nanoseconds: u64) -> Units
+    ensures { λ u. ⌜ u ≡ unixOf seconds nanoseconds ⌝ }
+{
+    if 2085978495 < seconds {
+        return Units {
+            number: 32,
+            units: 0,
+        };
+    }
+    if 1000000000 <= nanoseconds {
+        return Units {
+            number: 32,
+            units: 0,
+        };
+    }
+    Units {
+        number: 0,
+        units: (seconds + 2208988800) * 65536 + nanoseconds * 128 / 1953125,
+    }
+}
+
+// The Query Arrival Time of a time issued: its low 32 bits.
+pub fn arrival(y: u64) -> u32
+    ensures { λ r. ⌜ r ≡ arrivalOf y ⌝ }
+{
+    (y % 4294967296) as u32
+}
