@@ -1,0 +1,5 @@
+-- Laws that this crate's proofs and the crates above cite.
+pub mod Rows
+pub mod Stores
+pub mod Laws
+pub mod Determined

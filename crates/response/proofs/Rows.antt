@@ -1,0 +1,62 @@
+-- A law for each way out of a function: what its tests showed and what its callees answered, and the definition's answer.
+use Prim.Native.Nat.{ℕ, _+_, _≤_, _<_}
+use mathlib.Core.Bool.{Bool, true, false, not, _&&_, _||_, cond}
+use mathlib.Core.Path.{_≡_, refl, sym, ap, subst, _∙_}
+use native.Mathlib.Omega.{arith}
+use lib.Dec.{ltb, eqb}
+use Rattle.wire.proofs.First.{cond-cases}
+use Rattle.entry.specs.Route.{isRp, groupOnly}
+use Rattle.entry.specs.declared.route.Route.{Route}
+use Rattle.route.specs.declared.Chosen.{Chosen}
+use Rattle.route.specs.declared.Chosen.the-variants.{Found, Nothing}
+use Rattle.response.specs.declared.View.{View}
+use Rattle.response.specs.declared.Incoming.{Incoming}
+use Rattle.response.specs.declared.Tests.{Tests}
+use Rattle.response.specs.declared.Filled.{Filled}
+use Rattle.response.specs.Code.{testsFor, testsOf}
+use Rattle.response.specs.Fill.{sOf, maskOf, filledOf, unfilled, fillFor, RouteFits, endsFor, endsTrace}
+
+module _ (v : View) (r : Route) (found : v .chosen ≡ Found r) where
+  pub tests-found : (t : Tests) → t ≡ testsFor v (Found r) → t ≡ testsOf v
+  unfolding testsOf
+  tests-found t e = e ∙ ap (testsFor v) (sym found)
+
+  pub ends-found : (rp : Bool) (blocks hops : ℕ) → rp ≡ isRp r → (v .prohibited || rp || eqb (r .upstream) 0 || eqb blocks hops) ≡ endsTrace v blocks hops
+  unfolding endsTrace
+  ends-found rp blocks hops e = rw (e, found)
+
+  pub fill-found : (f : Filled) → v .prohibited ≡ false → f ≡ filledOf r (v .incoming) → f ≡ fillFor v (v .chosen)
+  fill-found f shut e = e ∙ subst (λ (w : Chosen). filledOf r (v .incoming) ≡ fillFor v w) (sym found) (rw shut)
+
+  pub fits-found : RouteFits (v .chosen) → r .length ≤ 32
+  fits-found fits = rw found at fits
+
+module _ (v : View) (none : v .chosen ≡ Nothing) where
+  pub tests-none : testsFor v Nothing ≡ testsOf v
+  unfolding testsOf
+  tests-none = ap (testsFor v) (sym none)
+
+  pub ends-none : (blocks hops : ℕ) → true ≡ endsTrace v blocks hops
+  unfolding endsTrace
+  ends-none blocks hops = rw none
+
+  pub fill-none : (f : Filled) → f ≡ unfilled → f ≡ fillFor v (v .chosen)
+  fill-none f e = rw none e
+
+shut-fill : (v : View) (w : Chosen) → v .prohibited ≡ true → unfilled ≡ fillFor v w
+shut-fill v Nothing e = refl
+shut-fill v (Found r) e = rw e
+
+pub fill-shut : (v : View) (f : Filled) → v .prohibited ≡ true → f ≡ unfilled → f ≡ fillFor v (v .chosen)
+fill-shut v f e q = q ∙ shut-fill v (v .chosen) e
+
+module _ (r : Route) (n : ℕ) (mask : n ≡ maskOf r) where
+  pub s-set : sOf r ≡ true → 128 + n ≡ cond (sOf r) (128 + maskOf r) (maskOf r)
+  s-set e = rw (e, mask)
+
+  pub s-clear : sOf r ≡ false → n ≡ cond (sOf r) (128 + maskOf r) (maskOf r)
+  s-clear e = rw (e, mask)
+
+  pub mask-fits : r .length ≤ 32 → 128 + n < 256
+  mask-fits short =
+      rw mask (cond-cases (λ (k : ℕ). 128 + k < 256) (eqb (r .kind) groupOnly) 127 (r .length) (λ e. omega arith) (λ e. omega arith))

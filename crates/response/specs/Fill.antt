@@ -1,0 +1,81 @@
+-- What the block is filled with, and what ends a trace. Neither looks at the other: the code decides nothing.
+use Prim.Native.Nat.{ℕ, _+_, _≤_}
+use mathlib.Core.Bool.{Bool, true, false, not, _&&_, _||_, cond}
+use lib.Dec.{ltb, eqb}
+use Rattle.wire.specs.Addresses.{allOnes}
+use Rattle.entry.specs.Route.{sourceAndGroup, groupOnly, sourceOnly, isRp}
+use Rattle.entry.specs.declared.route.Route.{Route}
+use Rattle.route.specs.declared.Chosen.{Chosen}
+use Rattle.route.specs.declared.Chosen.the-variants.{Found, Nothing}
+use Rattle.response.specs.declared.View.{View}
+use Rattle.response.specs.declared.Incoming.{Incoming}
+use Rattle.response.specs.declared.Filled.{Filled}
+use Rattle.response.specs.declared.Block.{Block}
+use Rattle.response.specs.View.{addressOf, inputOf}
+use Rattle.response.specs.Code.{testsOf, codeOf}
+
+-- 224.0.0.2, all routers of the link: where upstream is not known
+abbrev pub allRouters : ℕ
+allRouters = 3758096386
+
+-- all ones becomes 224.0.0.2
+abbrev pub upstreamOf : Route → ℕ
+upstreamOf r = cond (allOnes (r .upstream)) allRouters (r .upstream)
+
+-- the packets counted by the route; all ones for kind 3
+abbrev pub totalOf : Route → ℕ
+totalOf r = cond (eqb (r .kind) sourceOnly) 18446744073709551615 (r .packets)
+
+-- the source length; 127 for kind 2
+abbrev pub maskOf : Route → ℕ
+maskOf r = cond (eqb (r .kind) groupOnly) 127 (r .length)
+
+-- S: 1 for kind 2, and for kind 1 under length 32
+abbrev pub sOf : Route → Bool
+sOf r = eqb (r .kind) groupOnly || (eqb (r .kind) sourceAndGroup && ltb (r .length) 32)
+
+-- filled from the route
+unfoldable pub filledOf : Route → Incoming → Filled
+filledOf r i =
+    record {
+      incoming = addressOf i;
+      upstream = upstreamOf r;
+      input = inputOf i;
+      total = totalOf r;
+      protocol = r .protocol;
+      multicast = r .multicast;
+      mask = cond (sOf r) (128 + maskOf r) (maskOf r);
+    }
+
+abbrev pub unfilled : Filled
+unfilled = record { incoming = 0; upstream = 0; input = 0; total = 0; protocol = 0; multicast = 0; mask = 0 }
+
+-- with no route or with tracing prohibited all these are 0
+abbrev pub fillFor : View → Chosen → Filled
+fillFor v Nothing = unfilled
+fillFor v (Found r) = cond (v .prohibited) unfilled (filledOf r (v .incoming))
+
+-- a route's source length is at most 32, as in every valid sheet, so that S and mask fit their byte
+abbrev pub RouteFits : Chosen → Type 0
+RouteFits Nothing = Unit {0}
+RouteFits (Found r) = r .length ≤ 32
+
+-- the whole block: time, outgoing address, output count and TTL of the receiving interface; the code; the rest as filled
+unfoldable pub blockOf : View → Block
+blockOf v =
+    record {
+      time = v .time;
+      outgoing = v .here .address;
+      output = v .here .output;
+      threshold = v .here .threshold;
+      code = codeOf (testsOf v);
+      filled = fillFor v (v .chosen);
+    }
+
+-- a Reply if there is no route, tracing is prohibited, the route is RP, upstream is 0, or type 4 blocks now equal hops
+abbrev pub endsFor : Bool → ℕ → ℕ → Chosen → Bool
+endsFor prohibited blocks hops Nothing = true
+endsFor prohibited blocks hops (Found r) = prohibited || isRp r || eqb (r .upstream) 0 || eqb blocks hops
+
+unfoldable pub endsTrace : View → ℕ → ℕ → Bool
+endsTrace v blocks hops = endsFor (v .prohibited) blocks hops (v .chosen)

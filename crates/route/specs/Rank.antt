@@ -1,0 +1,40 @@
+-- How one pass finds the route: every route has a rank for a source and a group, and the first of the highest rank is the
+-- one. Ranks are 1 to 33 for kind 3, 34 for kind 2, 36 to 67 for kind 1, by length; 0 serves not at all.
+use Prim.Native.Nat.{ℕ, zero, suc, _+_}
+use mathlib.Core.Bool.{Bool, true, false, not, _&&_, _||_, cond}
+use lib.Dec.{ltb}
+use Rattle.wire.specs.Addresses.{allOnes}
+use Rattle.entry.specs.declared.route.Route.{Route}
+use Rattle.route.specs.declared.Best.{Best}
+use Rattle.route.specs.Choice.{servesBoth, servesGroup, servesSource}
+
+-- the rank by three tests, the first of which counts most
+unfoldable pub rankBy : (Route → Bool) → (Route → Bool) → (Route → Bool) → Route → ℕ
+rankBy both shared sourced r =
+    cond (both r) (35 + r .length) (cond (shared r) (34 + r .length) (cond (sourced r) (1 + r .length) 0))
+
+-- kind 1 wants a source and a group; kind 2 wants a group, or no source; kind 3 wants a source
+abbrev pub asBoth : ℕ → ℕ → Route → Bool
+asBoth source group r = not (allOnes source) && not (allOnes group) && servesBoth source group r
+
+abbrev pub asGroup : ℕ → ℕ → Route → Bool
+asGroup source group r = (allOnes source || not (allOnes group)) && servesGroup group r
+
+abbrev pub asSource : ℕ → Route → Bool
+asSource source r = not (allOnes source) && servesSource source r
+
+abbrev pub rankOf : ℕ → ℕ → Route → ℕ
+rankOf source group = rankBy (asBoth source group) (asGroup source group) (asSource source)
+
+-- a rank, and the place of the route that has it
+abbrev pub best : ℕ → ℕ → Best
+best rank at = record { rank = rank; at = at }
+
+-- the route at k takes the place of the best so far only if its rank is higher
+unfoldable pub better : Best → ℕ → ℕ → Best
+better b rank k = cond (ltb (b .rank) rank) (best rank k) b
+
+-- the best of the first n routes
+unfoldable pub bestOf : (ℕ → ℕ) → ℕ → Best
+bestOf rank zero = best 0 0
+bestOf rank (suc n) = better (bestOf rank n) (rank n) n
