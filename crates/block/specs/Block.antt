@@ -47,11 +47,12 @@ unfoldable pub zeros : List ℕ → Bool
 zeros [] = true
 zeros (x ∷ xs) = eqb x 0 && zeros xs
 
--- what a block of a kind, with entries of a size, keeps at its place, whatever its entries say: its kind, none of the
--- blocks empty, partly filled only where that is allowed, its number, unused entry bytes zero, the sum
+-- the entries in use of a block with room for `each`: none is empty, and it is partly filled only where it may be
+abbrev pub filledOk : ℕ → Bool → ℕ → Bool
+filledOk each partly used = leb 1 used && leb used each && (partly || eqb used each)
+
+-- what a block of a kind, with entries of a size, keeps whatever its entries say: kind, entries in use, number, unused entry
+-- bytes zero, sum
 unfoldable pub frameOk : ℕ → ℕ → ℕ → Bool → List ℕ → Bool
 frameOk kind size number partly b =
-    eqb (kindOf b) kind && leb 1 (usedIn b) && leb (usedIn b) (entriesEach size) && (partly || eqb (usedIn b) (entriesEach size))
-    && eqb (numberOf b) number
-    && zeros (unusedOf size b)
-    && sumOk b
+    eqb (kindOf b) kind && filledOk (entriesEach size) partly (usedIn b) && eqb (numberOf b) number && zeros (unusedOf size b) && sumOk b

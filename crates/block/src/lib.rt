@@ -2,7 +2,7 @@
 ghost use mathlib.Core.Path.{_≡_};
 ghost use Prim.Native.Nat.{_+_, _*_, _%_, _≤_, _<_};
 ghost use lib.ListN.{length};
-ghost use Rattle.block.specs.Block.{blockSize, frameOk};
+ghost use Rattle.block.specs.Block.{blockSize, filledOk, frameOk};
 ghost use Rattle.block.specs.Words.{words};
 
 // A byte as a wider number.
@@ -26,6 +26,12 @@ fn sum_words(b: &[u8], from: usize, to: usize) -> u64
     sum
 }
 
+fn filled_ok(each: usize, partly: bool, used: usize) -> bool
+    ensures { λ r. ⌜ r ≡ filledOk each partly used ⌝ }
+{
+    (1 <= used) & (used <= each) & (partly | (used == each))
+}
+
 // Whether a block keeps its frame. The words are read once: the unused ones are zero where their plain sum is, and the sum
 // with end-around carry is 0xFFFF where the plain sum of all is a multiple of 65535, and not 0.
 pub fn frame_ok(b: &[u8], kind: u8, size: usize, number: u16, partly: bool) -> bool
@@ -34,17 +40,15 @@ pub fn frame_ok(b: &[u8], kind: u8, size: usize, number: u16, partly: bool) -> b
     ensures { λ r. ⌜ r ≡ frameOk kind size number partly (now (b .entry)) ⌝ }
 {
     let used = wide(b[1]);
-    let most = 504 / size;
-    if most < used {
+    let each = 504 / size;
+    if each < used {
         return false;
     }
     let end = 1 + size * used / 4;
     let rest = sum_words(b, end, 127);
     let sum = sum_words(b, 0, end) + rest + wire::be32(b, 508) as u64;
     (b[0] == kind)
-        & (1 <= used)
-        & (used <= most)
-        & (partly | (used == most))
+        & filled_ok(each, partly, used)
         & (wire::be16(b, 2) == number)
         & (rest == 0)
         & ((0 < sum) & (sum % 65535 == 0))

@@ -1,0 +1,5 @@
+// The tables of a valid sheet.
+pub enum Found {
+    At(usize),
+    Nothing,
+}
