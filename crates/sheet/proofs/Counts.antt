@@ -1,16 +1,18 @@
 -- Blocks of a sheet, and how many entries they hold.
 use Prim.Native.Nat.{ℕ, zero, suc, _+_, _*_, _/_, _-_, _≤_, _<_}
-use mathlib.Core.Bool.{Bool, true, cond}
+use mathlib.Core.Bool.{Bool, true, false, not, cond}
 use mathlib.Core.List.{List}
 use mathlib.Core.Path.{_≡_, refl, sym, ap, _∙_}
 use native.Mathlib.Omega.{arith}
+use native.Mathlib.Nat.{mul-le-mul}
 use native.Mathlib.Numerals.{add-one}
 use lib.Dec.{eqb}
 use lib.ListN.{length, getD}
 use lib.Seq.{getD-take, getD-drop}
-use borrow.Author.Tests.{eq-eqb, ne-eqb}
+use borrow.Author.Tests.{eq-eqb, ne-eqb, not-false}
 use Rattle.wire.specs.Numbers.{byteAt}
-use Rattle.block.specs.Block.{usedIn}
+use Rattle.block.specs.Block.{usedIn, entriesEach, frameOk}
+use Rattle.block.proofs.Frames.{frame-filled}
 use Rattle.sheet.specs.Sheet.{blockAt, interfaceBlocksIn, entriesIn}
 
 -- a byte of block k is a byte of the sheet
@@ -38,3 +40,14 @@ pub entries-some : (s : List ℕ) (each first count x : ℕ) → (count ≡ 0 �
     → each * (count - 1) + x ≡ entriesIn s each first count
 unfolding entriesIn
 entries-some s each first count x h e = rw (ne-eqb count 0 h, e)
+
+-- few blocks hold few entries
+pub entries-few : (each count : ℕ) → each ≤ 21 → count ≤ 16 → each * (count - 1) ≤ 315
+entries-few each count h k = omega (arith, mul-le-mul h (n-le-m count k)) where
+  n-le-m : (count : ℕ) → count ≤ 16 → count - 1 ≤ 15
+  n-le-m count k = omega arith
+
+-- the entries in use of a block whose frame was found to hold
+pub used-fits : (size kind number : ℕ) (partly ok : Bool) (b : List ℕ) (used : ℕ) → ok ≡ frameOk kind size number partly b → not ok ≡ false → used ≡ usedIn b
+    → used ≤ entriesEach size
+used-fits size kind number partly ok b used e h u = rw u (frame-filled kind size number partly b (sym e ∙ not-false ok h) .most)

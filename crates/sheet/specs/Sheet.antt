@@ -11,7 +11,7 @@ use Rattle.entry.specs.Interface.{interfaceSize}
 use Rattle.entry.specs.Route.{routeSize}
 use Rattle.sheet.specs.Every.{every}
 use Rattle.sheet.specs.Rules.{interfaceKind, interfaceBlockOk, routeBlockOk}
-use Rattle.sheet.specs.declared.check.Layout.{Layout}
+use Rattle.sheet.specs.declared.layout.Layout.{Layout}
 
 -- 1 to 16 blocks, and nothing more
 abbrev pub sizeOk : ℕ → Bool
@@ -58,7 +58,7 @@ validSheet s =
     sizeOk (length s) && leb 1 (interfaceBlocks s) && leb (interfacesIn s) mostInterfaces && every (blockOk s) (blocks s)
 
 -- what the check tells of a sheet: how many interface blocks, interfaces and routes it has; nothing of one that breaks a rule
-unfoldable pub refused : Layout
+abbrev pub refused : Layout
 refused = record { valid = false; blocks = 0; interfaces = 0; routes = 0 }
 
 unfoldable pub counted : List ℕ → Layout

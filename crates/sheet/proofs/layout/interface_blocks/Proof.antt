@@ -4,12 +4,12 @@ use native.Mathlib.Omega.{arith}
 use borrow.Author.Needs.{needs}
 use Rattle.sheet.specs.Sheet.{interfaceBlocksIn}
 use Rattle.sheet.proofs.Counts.{counted-more, counted-all}
-use Rattle.sheet.proofs.check.interface_blocks.Statement.{statement}
-use Rattle.sheet.proofs.check.interface_blocks.Tie as tie
-use Rattle.sheet.proofs.check.interface_blocks.Reads as reads
-use Rattle.sheet.proofs.check.interface_blocks.Lts as lts
-use Rattle.sheet.proofs.check.byte_of.Reads as byte-of-reads
-use Rattle.sheet.proofs.check.one_if.Reads as one-if-reads
+use Rattle.sheet.proofs.layout.interface_blocks.Statement.{statement}
+use Rattle.sheet.proofs.layout.interface_blocks.Tie as tie
+use Rattle.sheet.proofs.layout.interface_blocks.Reads as reads
+use Rattle.sheet.proofs.layout.interface_blocks.Lts as lts
+use Rattle.sheet.proofs.layout.byte_of.Reads as byte-of-reads
+use Rattle.sheet.proofs.layout.one_if.Reads as one-if-reads
 
 abbrev Inv-loop : tie.InvT-loop
 Inv-loop s n m₀ k₀ m k = (k ≤ n) × (m ≤ k) × (m ≡ interfaceBlocksIn s k)

@@ -1,11 +1,11 @@
 use native.Mathlib.Omega.{arith}
-use Rattle.sheet.proofs.Counts.{entries-none, entries-some}
+use Rattle.sheet.proofs.Counts.{entries-none, entries-some, entries-few}
 use borrow.Author.Needs.{needs}
-use Rattle.sheet.proofs.check.entries.Statement.{statement}
-use Rattle.sheet.proofs.check.entries.Tie as tie
-use Rattle.sheet.proofs.check.entries.Reads as reads
-use Rattle.sheet.proofs.check.entries.Lts as lts
-use Rattle.sheet.proofs.check.byte_of.Reads as byte-of-reads
+use Rattle.sheet.proofs.layout.entries.Statement.{statement}
+use Rattle.sheet.proofs.layout.entries.Tie as tie
+use Rattle.sheet.proofs.layout.entries.Reads as reads
+use Rattle.sheet.proofs.layout.entries.Lts as lts
+use Rattle.sheet.proofs.layout.byte_of.Reads as byte-of-reads
 
 -- src/check.rt:64:9
 returns : tie.Need-returns
@@ -17,7 +17,7 @@ sub-result c = search needs
 
 -- src/check.rt:66:5
 mul-result : tie.Need-mul-result
-mul-result c = ?
+mul-result c = omega (arith, entries-few (c .before .before .args .each) (c .before .before .args .count) (omega arith) (omega arith))
 
 -- src/check.rt:66:46
 sub-byte-of : tie.Need-sub-byte-of
@@ -33,7 +33,7 @@ byte-of-requires c κs = search needs
 
 -- src/check.rt:66:5
 add-result : tie.Need-add-result
-add-result c = ?
+add-result c = omega (arith, entries-few (c .before .before .before .args .each) (c .before .before .before .args .count) (omega arith) (omega arith))
 
 -- src/check.rt:59:1
 returns-2 : tie.Need-returns-2

@@ -1,9 +1,9 @@
 use Rattle.sheet.proofs.Counts.{byte-told}
 use borrow.Author.Needs.{needs}
-use Rattle.sheet.proofs.check.byte_of.Statement.{statement}
-use Rattle.sheet.proofs.check.byte_of.Tie as tie
-use Rattle.sheet.proofs.check.byte_of.Reads as reads
-use Rattle.sheet.proofs.check.byte_of.Lts as lts
+use Rattle.sheet.proofs.layout.byte_of.Statement.{statement}
+use Rattle.sheet.proofs.layout.byte_of.Tie as tie
+use Rattle.sheet.proofs.layout.byte_of.Reads as reads
+use Rattle.sheet.proofs.layout.byte_of.Lts as lts
 use Rattle.sheet.proofs.rules.wide.Reads as wide-reads
 
 -- src/check.rt:41:12
