@@ -8,23 +8,25 @@ use native.Mathlib.Nat.{add-sub-cancel-left}
 use lib.Dec.{leb, eqb}
 use lib.ListN.{length, take, drop}
 use borrow.Author.Tests.{lt-ltb, le-ltb, lt-leb, le-leb, leb-true, eqb-true, not-true, not-false}
+use Rattle.entry.specs.Interface.{interfaceSize}
+use Rattle.entry.specs.Route.{routeSize}
 use Rattle.block.proofs.Flags.{both-of}
 use Rattle.sheet.specs.Every.{every}
-use Rattle.sheet.specs.Rules.{interfaceBlockOk, routeBlockOk}
-use Rattle.sheet.specs.Sheet.{sizeOk, blocks, interfaceBlocks, interfacesIn, blockOk, validSheet, refused, counted, layoutOf}
+use Rattle.sheet.specs.Rules.{interfaceKind, routeKind, interfaceRight, routeRight, blockOk}
+use Rattle.sheet.specs.Sheet.{sizeOk, blocks, interfaceBlocks, interfacesIn, blockOkAt, validSheet, refused, counted, layoutOf}
 use Rattle.sheet.specs.declared.layout.Layout.{Layout}
 
 -- a block by its number
 pub interface-block : (s : List ℕ) (k m : ℕ) (x : Bool) → m ≡ interfaceBlocks s → k < m
-    → x ≡ interfaceBlockOk k (eqb (k + 1) m) (take (512 * k + 512 - 512 * k) (drop (512 * k) s))
-    → x ≡ blockOk s k
-unfolding blockOk
+    → x ≡ blockOk interfaceKind interfaceSize interfaceRight k (eqb (k + 1) m) (take (512 * k + 512 - 512 * k) (drop (512 * k) s))
+    → x ≡ blockOkAt s k
+unfolding blockOkAt
 interface-block s k m x e h f = rw (← e, lt-ltb k m h) (rw add-sub-cancel-left at f)
 
 pub route-block : (s : List ℕ) (k m interfaces : ℕ) (x : Bool) → m ≡ interfaceBlocks s → interfaces ≡ interfacesIn s → m ≤ k
-    → x ≡ routeBlockOk interfaces k (eqb (k + 1) (blocks s)) (take (512 * k + 512 - 512 * k) (drop (512 * k) s))
-    → x ≡ blockOk s k
-unfolding blockOk
+    → x ≡ blockOk routeKind routeSize (routeRight interfaces) k (eqb (k + 1) (blocks s)) (take (512 * k + 512 - 512 * k) (drop (512 * k) s))
+    → x ≡ blockOkAt s k
+unfolding blockOkAt
 route-block s k m interfaces x e g h f = rw (← e, ← g, le-ltb k m h) (rw add-sub-cancel-left at f)
 
 -- the length of a sheet: 1 to 16 whole blocks
@@ -68,7 +70,7 @@ module _ (s : List ℕ) (size : Bool) (es : size ≡ sizeOk (length s)) (r : Lay
         unfolding layoutOf validSheet
         many-interfaces k f = f ∙ rw (← es, not-false size h, ← m-told, le-leb 1 (l .blocks) some, ← i-told, lt-leb (l .interfaces) 64 k)
 
-        module _ (few : l .interfaces ≤ 64) (ok : Bool) (eo : ok ≡ every (blockOk s) (blocks s)) where
+        module _ (few : l .interfaces ≤ 64) (ok : Bool) (eo : ok ≡ every (blockOkAt s) (blocks s)) where
           valid-as : validSheet s ≡ ok
           unfolding validSheet
           valid-as = rw (← es, not-false size h, ← m-told, le-leb 1 (l .blocks) some, ← i-told, le-leb (l .interfaces) 64 few) (sym eo)

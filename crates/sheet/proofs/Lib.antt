@@ -2,3 +2,8 @@
 pub mod Numbered
 pub mod Counts
 pub mod Layouts
+pub mod Valid
+pub mod Places
+pub mod Inside
+pub mod Entries
+pub mod Reading

@@ -1,11 +1,11 @@
--- The rules on one block of a sheet. A block of either kind keeps its frame, its switches and the rules of each entry in use.
+-- The rules on one block of a sheet, of either kind: its frame, its switches, and each entry in use.
 use Prim.Native.Nat.{ℕ}
 use mathlib.Core.Bool.{Bool, _&&_, _||_}
 use mathlib.Core.List.{List}
 use lib.Dec.{eqb}
 use Rattle.block.specs.Block.{usedIn, switchesOf, entryAt, frameOk}
-use Rattle.entry.specs.Interface.{interfaceSize, interfaceAt, interfaceOk}
-use Rattle.entry.specs.Route.{routeSize, routeAt, routeOk}
+use Rattle.entry.specs.Interface.{interfaceAt, interfaceOk}
+use Rattle.entry.specs.Route.{routeAt, routeOk}
 use Rattle.sheet.specs.Every.{every}
 
 -- the kinds of blocks
@@ -19,20 +19,18 @@ routeKind = 2
 abbrev pub switchesOk : ℕ → ℕ → Bool
 switchesOk number switches = eqb switches 0 || (eqb number 0 && eqb switches 1)
 
--- every interface in use keeps its rules
-abbrev pub interfacesOk : List ℕ → ℕ → Bool
-interfacesOk b = every (λ j. interfaceOk (interfaceAt b (entryAt interfaceSize j)))
+-- the interface, or the route, that begins at a place keeps its rules
+abbrev pub interfaceRight : List ℕ → ℕ → Bool
+interfaceRight b at = interfaceOk (interfaceAt b at)
 
--- every route in use keeps its rules, where there are so many interfaces
-abbrev pub routesOk : ℕ → List ℕ → ℕ → Bool
-routesOk interfaces b = every (λ j. routeOk interfaces (routeAt b (entryAt routeSize j)))
+abbrev pub routeRight : ℕ → List ℕ → ℕ → Bool
+routeRight interfaces b at = routeOk interfaces (routeAt b at)
 
--- an interface block with its number; `partly` where it may be partly filled
-unfoldable pub interfaceBlockOk : ℕ → Bool → List ℕ → Bool
-interfaceBlockOk number partly b =
-    frameOk interfaceKind interfaceSize number partly b && switchesOk number (switchesOf b) && interfacesOk b (usedIn b)
+-- the first n entries of a block, each of a size, keep their rules
+abbrev pub entriesOk : ℕ → (List ℕ → ℕ → Bool) → List ℕ → ℕ → Bool
+entriesOk size right b = every (λ j. right b (entryAt size j))
 
--- a route block, where there are so many interfaces
-unfoldable pub routeBlockOk : ℕ → ℕ → Bool → List ℕ → Bool
-routeBlockOk interfaces number partly b =
-    frameOk routeKind routeSize number partly b && switchesOk number (switchesOf b) && routesOk interfaces b (usedIn b)
+-- a block of a kind, with entries of a size, and with its number; `partly` where it may be partly filled
+unfoldable pub blockOk : ℕ → ℕ → (List ℕ → ℕ → Bool) → ℕ → Bool → List ℕ → Bool
+blockOk kind size right number partly b =
+    frameOk kind size number partly b && switchesOk number (switchesOf b) && entriesOk size right b (usedIn b)

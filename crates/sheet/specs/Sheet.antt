@@ -10,7 +10,7 @@ use Rattle.block.specs.Block.{blockSize, kindOf, usedIn, entriesEach}
 use Rattle.entry.specs.Interface.{interfaceSize}
 use Rattle.entry.specs.Route.{routeSize}
 use Rattle.sheet.specs.Every.{every}
-use Rattle.sheet.specs.Rules.{interfaceKind, interfaceBlockOk, routeBlockOk}
+use Rattle.sheet.specs.Rules.{interfaceKind, routeKind, interfaceRight, routeRight, blockOk}
 use Rattle.sheet.specs.declared.layout.Layout.{Layout}
 
 -- 1 to 16 blocks, and nothing more
@@ -47,15 +47,15 @@ unfoldable pub routesIn : List ℕ → ℕ
 routesIn s = entriesIn s (entriesEach routeSize) (interfaceBlocks s) (blocks s - interfaceBlocks s)
 
 -- block k keeps its rules: the interface blocks come first, and the last of a kind may be partly filled
-unfoldable pub blockOk : List ℕ → ℕ → Bool
-blockOk s k =
+unfoldable pub blockOkAt : List ℕ → ℕ → Bool
+blockOkAt s k =
     cond (ltb k (interfaceBlocks s))
-    (interfaceBlockOk k (eqb (k + 1) (interfaceBlocks s)) (blockAt s k))
-    (routeBlockOk (interfacesIn s) k (eqb (k + 1) (blocks s)) (blockAt s k))
+    (blockOk interfaceKind interfaceSize interfaceRight k (eqb (k + 1) (interfaceBlocks s)) (blockAt s k))
+    (blockOk routeKind routeSize (routeRight (interfacesIn s)) k (eqb (k + 1) (blocks s)) (blockAt s k))
 
 unfoldable pub validSheet : List ℕ → Bool
 validSheet s =
-    sizeOk (length s) && leb 1 (interfaceBlocks s) && leb (interfacesIn s) mostInterfaces && every (blockOk s) (blocks s)
+    sizeOk (length s) && leb 1 (interfaceBlocks s) && leb (interfacesIn s) mostInterfaces && every (blockOkAt s) (blocks s)
 
 -- what the check tells of a sheet: how many interface blocks, interfaces and routes it has; nothing of one that breaks a rule
 abbrev pub refused : Layout

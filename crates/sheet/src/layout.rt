@@ -8,7 +8,7 @@ ghost use Prim.Native.Nat.{_+_, _*_, _/_, _≤_, _<_};
 ghost use lib.ListN.{length};
 ghost use Rattle.wire.specs.Numbers.{byteAt};
 ghost use Rattle.sheet.specs.Every.{every};
-ghost use Rattle.sheet.specs.Sheet.{sizeOk, blocks, blockAt, interfaceBlocksIn, interfaceBlocks, entriesIn, interfacesIn, blockOk, refused, counted, layoutOf};
+ghost use Rattle.sheet.specs.Sheet.{sizeOk, blocks, blockAt, interfaceBlocksIn, interfaceBlocks, entriesIn, interfacesIn, blockOkAt, refused, counted, layoutOf};
 
 // What the check tells of a sheet: whether it is valid, and how many interface blocks, interfaces and routes it has.
 pub struct Layout {
@@ -85,7 +85,7 @@ fn counts(s: &[u8]) -> Layout
 fn block_ok(s: &[u8], k: usize, m: usize, interfaces: u16) -> bool
     requires { ⌜ (512 * k + 512 ≤ length (now s)) × (k < 16) × (interfaces ≤ 64) ⌝ }
     requires { ⌜ (m ≡ interfaceBlocks (now s)) × (interfaces ≡ interfacesIn (now s)) ⌝ }
-    ensures { λ r. ⌜ r ≡ blockOk (now (s .entry)) k ⌝ }
+    ensures { λ r. ⌜ r ≡ blockOkAt (now (s .entry)) k ⌝ }
 {
     let a = 512 * k;
     let e = a + 512;
@@ -100,7 +100,7 @@ fn block_ok(s: &[u8], k: usize, m: usize, interfaces: u16) -> bool
 fn blocks_ok(s: &[u8], m: usize, interfaces: u16) -> bool
     requires { ⌜ (blocks (now s) ≤ 16) × (interfaces ≤ 64) ⌝ }
     requires { ⌜ (m ≡ interfaceBlocks (now s)) × (interfaces ≡ interfacesIn (now s)) ⌝ }
-    ensures { λ r. ⌜ r ≡ every (blockOk (now (s .entry))) (blocks (now (s .entry))) ⌝ }
+    ensures { λ r. ⌜ r ≡ every (blockOkAt (now (s .entry))) (blocks (now (s .entry))) ⌝ }
 {
     let n = s.len() / 512;
     let mut ok = true;

@@ -3,7 +3,7 @@ use mathlib.Core.Path.{_≡_, refl}
 use native.Mathlib.Omega.{arith}
 use borrow.Author.Needs.{needs}
 use Rattle.sheet.specs.Every.{every}
-use Rattle.sheet.specs.Sheet.{blockOk}
+use Rattle.sheet.specs.Sheet.{blockOkAt}
 use Rattle.sheet.proofs.Numbered.{every-more, every-all}
 use Rattle.sheet.proofs.layout.blocks_ok.Statement.{statement}
 use Rattle.sheet.proofs.layout.blocks_ok.Tie as tie
@@ -12,7 +12,7 @@ use Rattle.sheet.proofs.layout.blocks_ok.Lts as lts
 use Rattle.sheet.proofs.layout.block_ok.Reads as block-ok-reads
 
 abbrev Inv-loop : tie.InvT-loop
-Inv-loop s m interfaces n ok₀ k₀ ok k = (k ≤ n) × (ok ≡ every (blockOk s) k)
+Inv-loop s m interfaces n ok₀ k₀ ok k = (k ≤ n) × (ok ≡ every (blockOkAt s) k)
 
 abbrev μ-loop : tie.MeasureT-loop
 μ-loop s m interfaces n ok₀ k₀ ok k = n - k

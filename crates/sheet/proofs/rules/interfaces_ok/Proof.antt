@@ -4,7 +4,8 @@ use native.Mathlib.Omega.{arith}
 use native.Mathlib.Numerals.{add-one}
 use borrow.Author.Needs.{needs}
 use Rattle.sheet.specs.Every.{every}
-use Rattle.sheet.specs.Rules.{interfacesOk}
+use Rattle.sheet.specs.Rules.{interfaceRight, entriesOk}
+use Rattle.entry.specs.Interface.{interfaceSize}
 use Rattle.sheet.proofs.Numbered.{every-all}
 use Rattle.sheet.proofs.rules.interfaces_ok.Statement.{statement}
 use Rattle.sheet.proofs.rules.interfaces_ok.Tie as tie
@@ -14,7 +15,7 @@ use Rattle.entry.proofs.interface_at.Reads as interface-at-reads
 use Rattle.entry.proofs.interface_ok.Reads as interface-ok-reads
 
 abbrev Inv-loop : tie.InvT-loop
-Inv-loop b used ok₀ j₀ ok j = (j ≤ used) × (ok ≡ interfacesOk b j)
+Inv-loop b used ok₀ j₀ ok j = (j ≤ used) × (ok ≡ entriesOk interfaceSize interfaceRight b j)
 
 abbrev μ-loop : tie.MeasureT-loop
 μ-loop b used ok₀ j₀ ok j = used - j

@@ -1,6 +1,6 @@
 use borrow.Author.Needs.{needs}
 use borrow.Author.Tests.{not-true, not-false}
-use Rattle.sheet.specs.Rules.{routeBlockOk}
+use Rattle.sheet.specs.Rules.{blockOk}
 use Rattle.sheet.proofs.Counts.{used-fits}
 use Rattle.sheet.proofs.rules.route_block_ok.Statement.{statement}
 use Rattle.sheet.proofs.rules.route_block_ok.Tie as tie
@@ -18,7 +18,7 @@ frame-ok-requires c κs = search needs
 
 -- src/rules.rt:66:9
 returns : tie.Need-returns
-unfolding routeBlockOk
+unfolding blockOk
 returns c = rw (← c .before .frame-ok .ensures, not-true (c .before .frame-ok .result) (c .if1 .taken))
 
 -- src/rules.rt:68:25
@@ -43,7 +43,7 @@ routes-ok-requires c κs = search (used-fits 56, needs)
 
 -- src/rules.rt:61:1
 returns-2 : tie.Need-returns-2
-unfolding routeBlockOk
+unfolding blockOk
 returns-2 c =
     let c0 = c .before in
     let c1 = c0 .before .before in

@@ -3,7 +3,8 @@ use mathlib.Core.Path.{_≡_, refl}
 use native.Mathlib.Omega.{arith}
 use native.Mathlib.Numerals.{add-one}
 use Rattle.sheet.specs.Every.{every}
-use Rattle.sheet.specs.Rules.{routesOk}
+use Rattle.sheet.specs.Rules.{routeRight, entriesOk}
+use Rattle.entry.specs.Route.{routeSize}
 use Rattle.sheet.proofs.Numbered.{every-all}
 use Rattle.sheet.proofs.rules.routes_ok.Statement.{statement}
 use Rattle.sheet.proofs.rules.routes_ok.Tie as tie
@@ -13,7 +14,7 @@ use Rattle.entry.proofs.route_at.Reads as route-at-reads
 use Rattle.entry.proofs.route_ok.Reads as route-ok-reads
 
 abbrev Inv-loop : tie.InvT-loop
-Inv-loop b used interfaces ok₀ j₀ ok j = (j ≤ used) × (ok ≡ routesOk interfaces b j)
+Inv-loop b used interfaces ok₀ j₀ ok j = (j ≤ used) × (ok ≡ entriesOk routeSize (routeRight interfaces) b j)
 
 abbrev μ-loop : tie.MeasureT-loop
 μ-loop b used interfaces ok₀ j₀ ok j = used - j
