@@ -1,0 +1,158 @@
+-- The plain sum of the 32-bit words, joined to what the definitions say: the sum of RFC 1071, and unused bytes that are zero.
+use Prim.Native.Nat.{ℕ, zero, suc, _+_, _*_, _/_, _%_, _-_, _≤_, _<_}
+use mathlib.Core.Bool.{Bool, true, false, _&&_}
+use mathlib.Core.Path.{_≡_, refl, sym, ap, _∙_}
+use mathlib.Core.List.{List, [], _∷_}
+use native.Mathlib.Omega.{arith}
+use native.Mathlib.Numerals.{add-one, add-two, add-three, add-four}
+use native.Mathlib.Nat.{add-zero, zero-add}
+use lib.Dec.{leb, ltb, eqb}
+use lib.ListN.{length, getD, take, drop, drop-of-length-le}
+use lib.Seq.{drop-cons}
+use borrow.Author.Tests.{eqb-true, eq-eqb, ne-eqb, ltb-true, lt-ltb}
+use Rattle.wire.specs.Numbers.{byteAt, be, be32}
+use Rattle.wire.specs.Parts.{part}
+use Rattle.block.specs.Sum.{carried, sumFrom, sumOk}
+use Rattle.block.specs.Block.{zeros}
+use Rattle.block.specs.Words.{words}
+use Rattle.block.proofs.Flags.{same-flag, both-true, both-of}
+
+-- one word more
+pub words-more : (b : List ℕ) (sum from i x : ℕ) → sum + words b from ≡ words b i → x ≡ be32 b (4 * i) → sum + x + words b from ≡ words b (i + 1)
+unfolding words
+words-more b sum from i x e f = rw (add-one, ← e, f) (omega arith)
+
+pub words-all : (b : List ℕ) (sum from i to : ℕ) → sum + words b from ≡ words b i → i ≤ to → to ≤ i → sum + words b from ≡ words b to
+words-all b sum from i to e h k = let q : i ≡ to = omega arith in e ∙ ap (words b) q
+
+-- four bytes at the front of what is left, and the word that they are
+four : (b : List ℕ) (at : ℕ) → at + 4 ≤ length b
+    → drop at b ≡ byteAt b at ∷ byteAt b (at + 1) ∷ byteAt b (at + 2) ∷ byteAt b (at + 2 + 1) ∷ drop (at + 4) b
+four b at h =
+    rw (drop-cons b at 0 (omega arith), drop-cons b (suc at) 0 (omega arith), drop-cons b (suc (suc at)) 0 (omega arith), drop-cons b (suc (suc (suc at))) 0 (omega arith))
+    (simp (add-one, add-two, add-four))
+
+word : (b : List ℕ) (at : ℕ) → be32 b at ≡ (byteAt b at * 256 + byteAt b (at + 1)) * 65536 + (byteAt b (at + 2) * 256 + byteAt b (at + 2 + 1))
+unfolding be
+word b at = refl
+
+-- end-around carry takes away multiples of 65535, and comes to 0 from 0 alone
+record Folded (sum plain : ℕ) : Type 0 where
+  times : ℕ
+  is : plain ≡ sum + 65535 * times
+  most : sum ≤ 65535
+  some : 0 < plain → 0 < sum
+
+either-some : (plain sum w : ℕ) → (0 < plain → 0 < sum) → 0 < plain + w → 0 < sum + w
+either-some zero sum w g h = omega arith
+either-some (suc plain) sum w g h = let k : 0 < sum = g (omega arith) in omega arith
+
+folded-more : (sum plain w : ℕ) → Folded sum plain → w < 65536 → Folded (carried (sum + w)) (plain + w)
+unfolding carried
+folded-more sum plain w f h =
+    record {
+      times = f .times + (sum + w) / 65536;
+      is = omega arith;
+      most = omega arith;
+      some = λ k. let l : 0 < sum + w = either-some plain sum w (f .some) k in omega arith;
+    }
+
+-- a word of 32 bits counts as its two halves
+folded-word : (sum plain high low : ℕ) → Folded sum plain → high < 65536 → low < 65536
+    → Folded (carried (carried (sum + high) + low)) (plain + (high * 65536 + low))
+folded-word sum plain high low f h l =
+    let g = folded-more (carried (sum + high)) (plain + high) low (folded-more sum plain high f h) l in
+    record { times = g .times + high; is = omega (arith, g .is); most = g .most; some = λ k. g .some (omega arith) }
+
+folded-test : (sum plain : ℕ) → Folded sum plain → eqb sum 65535 ≡ ltb 0 plain && eqb (plain % 65535) 0
+folded-test sum plain f =
+    same-flag (eqb sum 65535) (ltb 0 plain && eqb (plain % 65535) 0)
+    (λ e. let q : sum ≡ 65535 = eqb-true sum 65535 e in
+     both-true (ltb 0 plain) (eqb (plain % 65535) 0) (lt-ltb 0 plain (omega arith)) (eq-eqb (plain % 65535) 0 (omega arith)))
+    (λ e. let q = both-of (ltb 0 plain) (eqb (plain % 65535) 0) e in
+     let l : 0 < plain = ltb-true 0 plain (q .0) in
+     let k : 0 < sum = f .some l in
+     let z : plain % 65535 ≡ 0 = eqb-true (plain % 65535) 0 (q .1) in
+     eq-eqb sum 65535 (omega arith))
+
+-- the sum so far, of the first n words of 32 bits: how it goes on, and what it is of their plain sum
+record Summed (b : List ℕ) (n : ℕ) : Type 0 where
+  sum : ℕ
+  along : sumFrom 0 b ≡ sumFrom sum (drop (4 * n) b)
+  folded : Folded sum (words b n)
+
+module _ (b : List ℕ) (bytes : (i : ℕ) → byteAt b i < 256) where
+  half : (i : ℕ) → byteAt b i * 256 + byteAt b (i + 1) < 65536
+  half i = omega (arith, bytes i, bytes (i + 1))
+
+  summed-more : (n : ℕ) → 4 * n + 4 ≤ length b → Summed b n → Summed b (suc n)
+  unfolding sumFrom words
+  summed-more n h p =
+      let at : ℕ = 4 * n in
+      let high : ℕ = byteAt b at * 256 + byteAt b (at + 1) in
+      let low : ℕ = byteAt b (at + 2) * 256 + byteAt b (at + 2 + 1) in
+      let e : 4 * suc n ≡ at + 4 = omega arith in
+      record {
+        sum = carried (carried (p .sum + high) + low);
+        along = p .along ∙ rw (e, four b at h);
+        folded = rw (word b at) (folded-word (p .sum) (words b n) high low (p .folded) (half at) (half (at + 2)));
+      }
+
+  summed : (n : ℕ) → 4 * n ≤ length b → Summed b n
+  unfolding sumFrom words
+  summed zero h = record { sum = 0; along = refl; folded = record { times = 0; is = refl; most = omega arith; some = λ k. k } }
+  summed (suc n) h = summed-more n (omega arith) (summed n (omega arith))
+
+  -- the sum with end-around carry of 128 words is 0xFFFF where their plain sum is a multiple of 65535, and not 0
+  pub sum-plain : (w : ℕ) → length b ≡ 512 → w ≡ words b 128 → sumOk b ≡ ltb 0 w && eqb (w % 65535) 0
+  unfolding sumOk sumFrom
+  sum-plain w long e =
+      let p = summed 128 (omega arith) in
+      rw (p .along, drop-of-length-le b {i = 512} (omega arith), e) (folded-test (p .sum) (words b 128) (p .folded))
+
+-- a sum by weights is 0 where its terms are
+weighed : (k x y : ℕ) → 0 < k → eqb (k * x + y) 0 ≡ eqb x 0 && eqb y 0
+weighed k zero y h = let e : k * 0 + y ≡ y = omega arith in rw e
+weighed k (suc x) y h = ne-eqb (k * suc x + y) 0 (λ e. omega arith) ∙ rw (ne-eqb (suc x) 0 (λ e. omega arith))
+
+-- the plain sum of n words, taken from the front
+span : List ℕ → ℕ → ℕ → ℕ
+span b from zero = 0
+span b from (suc n) = be32 b (4 * from) + span b (suc from) n
+
+span-words : (b : List ℕ) (n from : ℕ) → span b from n + words b from ≡ words b (from + n)
+unfolding span words
+span-words b zero from = simp (add-zero, zero-add)
+span-words b (suc n) from = let e : from + suc n ≡ suc from + n = omega arith in rw e (omega (arith, span-words b n (suc from)))
+
+-- it is 0 where every byte there is zero
+span-zeros : (b : List ℕ) (n from : ℕ) → 4 * (from + n) ≤ length b → eqb (span b from n) 0 ≡ zeros (take (4 * n) (drop (4 * from) b))
+unfolding span zeros
+span-zeros b zero from h = refl
+span-zeros b (suc n) from h =
+    let at : ℕ = 4 * from in
+    let y : ℕ = span b (suc from) n in
+    let bytes : 4 * suc n ≡ suc (suc (suc (suc (4 * n)))) = omega arith in
+    let next : at + 4 ≡ 4 * suc from = omega arith in
+    let split : be32 b at + y ≡ 16777216 * byteAt b at + (65536 * byteAt b (at + 1) + (256 * byteAt b (at + 2) + (1 * byteAt b (at + 2 + 1) + y))) = omega (arith, word b at) in
+    rw (
+      bytes,
+      four b at (omega arith),
+      next,
+      split,
+      weighed 16777216 (byteAt b at) _ (omega arith),
+      weighed 65536 (byteAt b (at + 1)) _ (omega arith),
+      weighed 256 (byteAt b (at + 2)) _ (omega arith),
+      weighed 1 (byteAt b (at + 2 + 1)) y (omega arith),
+      ← span-zeros b n (suc from) (omega arith),
+    )
+
+-- a sum of words up to word 127 is 0 where the bytes up to the switches are zero
+pub zeros-plain : (b : List ℕ) (from sum : ℕ) → length b ≡ 512 → from ≤ 127 → sum + words b from ≡ words b 127
+    → eqb sum 0 ≡ zeros (part (4 * from) (508 - 4 * from) b)
+zeros-plain b from sum long h e =
+    let n : ℕ = 127 - from in
+    let end : 127 ≡ from + n = omega arith in
+    let bytes : 508 - 4 * from ≡ 4 * n = omega arith in
+    let s : sum ≡ span b from n = omega (arith, span-words b n from, ap (words b) end) in
+    rw (bytes, s) (span-zeros b n from (omega arith))

@@ -1,0 +1,58 @@
+-- A block of 512 bytes. Byte 0 is its kind, byte 1 the entries in use, 2-3 the block number, 4-507 the entries, 508-509 the
+-- switches, 510-511 the check.
+use Prim.Native.Nat.{ℕ, _+_, _*_, _-_, _/_}
+use mathlib.Core.Bool.{Bool, true, _&&_, _||_}
+use mathlib.Core.List.{List, [], _∷_}
+use lib.Dec.{leb, eqb}
+use Rattle.wire.specs.Numbers.{byteAt, be16}
+use Rattle.wire.specs.Parts.{part}
+use Rattle.block.specs.Sum.{sumOk}
+
+abbrev pub blockSize : ℕ
+blockSize = 512
+
+abbrev pub entriesAt : ℕ
+entriesAt = 4
+
+abbrev pub switchesAt : ℕ
+switchesAt = 508
+
+-- the fields outside the entries
+abbrev pub kindOf : List ℕ → ℕ
+kindOf b = byteAt b 0
+
+abbrev pub usedIn : List ℕ → ℕ
+usedIn b = byteAt b 1
+
+abbrev pub numberOf : List ℕ → ℕ
+numberOf b = be16 b 2
+
+abbrev pub switchesOf : List ℕ → ℕ
+switchesOf b = be16 b switchesAt
+
+-- how many entries of a size a block has room for
+abbrev pub entriesEach : ℕ → ℕ
+entriesEach size = (switchesAt - entriesAt) / size
+
+-- where entry j begins
+abbrev pub entryAt : ℕ → ℕ → ℕ
+entryAt size j = entriesAt + size * j
+
+-- the entry bytes past the entries in use
+abbrev pub unusedOf : ℕ → List ℕ → List ℕ
+unusedOf size b = part (entryAt size (usedIn b)) (switchesAt - entryAt size (usedIn b)) b
+
+-- every byte is zero
+unfoldable pub zeros : List ℕ → Bool
+zeros [] = true
+zeros (x ∷ xs) = eqb x 0 && zeros xs
+
+-- the entries in use of a block with room for `each`: none is empty, and it is partly filled only where it may be
+abbrev pub filledOk : ℕ → Bool → ℕ → Bool
+filledOk each partly used = leb 1 used && leb used each && (partly || eqb used each)
+
+-- what a block of a kind, with entries of a size, keeps whatever its entries say: kind, entries in use, number, unused entry
+-- bytes zero, sum
+unfoldable pub frameOk : ℕ → ℕ → ℕ → Bool → List ℕ → Bool
+frameOk kind size number partly b =
+    eqb (kindOf b) kind && filledOk (entriesEach size) partly (usedIn b) && eqb (numberOf b) number && zeros (unusedOf size b) && sumOk b

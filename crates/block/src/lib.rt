@@ -1,0 +1,55 @@
+// The frame of a block of 512 bytes: kind, entries in use, number, unused bytes, sum.
+ghost use mathlib.Core.Path.{_≡_};
+ghost use Prim.Native.Nat.{_+_, _*_, _%_, _≤_, _<_};
+ghost use lib.ListN.{length};
+ghost use Rattle.block.specs.Block.{blockSize, filledOk, frameOk};
+ghost use Rattle.block.specs.Words.{words};
+
+// A byte as a wider number.
+fn wide(x: u8) -> usize
+    ensures { λ r. ⌜ (r ≡ x) × (r < 256) ⌝ }
+{
+    x as usize
+}
+
+// The plain sum of the 32-bit words from `from` up to `to`.
+fn sum_words(b: &[u8], from: usize, to: usize) -> u64
+    requires { ⌜ (from ≤ to) × (to ≤ 128) × (length (now b) ≡ blockSize) ⌝ }
+    ensures { λ r. ⌜ (r + words (now (b .entry)) from ≡ words (now (b .entry)) to) × (r ≤ 549755813760) ⌝ }
+{
+    let mut sum: u64 = 0;
+    let mut i = from;
+    while i < to {
+        sum += wire::be32(b, 4 * i) as u64;
+        i += 1;
+    }
+    sum
+}
+
+fn filled_ok(each: usize, partly: bool, used: usize) -> bool
+    ensures { λ r. ⌜ r ≡ filledOk each partly used ⌝ }
+{
+    (1 <= used) & (used <= each) & (partly | (used == each))
+}
+
+// Whether a block keeps its frame. The words are read once: the unused ones are zero where their plain sum is, and the sum
+// with end-around carry is 0xFFFF where the plain sum of all is a multiple of 65535, and not 0.
+pub fn frame_ok(b: &[u8], kind: u8, size: usize, number: u16, partly: bool) -> bool
+    requires { ⌜ length (now b) ≡ blockSize ⌝ }
+    requires { ⌜ (0 < size) × (size % 4 ≡ 0) ⌝ }
+    ensures { λ r. ⌜ r ≡ frameOk kind size number partly (now (b .entry)) ⌝ }
+{
+    let used = wide(b[1]);
+    let each = 504 / size;
+    if each < used {
+        return false;
+    }
+    let end = 1 + size * used / 4;
+    let rest = sum_words(b, end, 127);
+    let sum = sum_words(b, 0, end) + rest + wire::be32(b, 508) as u64;
+    (b[0] == kind)
+        & filled_ok(each, partly, used)
+        & (wire::be16(b, 2) == number)
+        & (rest == 0)
+        & ((0 < sum) & (sum % 65535 == 0))
+}

@@ -1,0 +1,83 @@
+-- What holds of every sheet's tables as the layout counts them: each interface and each route keeps its rules and lies within
+-- the sheet. A refused sheet has none.
+use Prim.Native.Nat.{ℕ, _+_, _*_, _-_, _/_, _%_, _≤_, _<_}
+use mathlib.Core.Bool.{Bool, true, false}
+use mathlib.Core.List.{List}
+use mathlib.Core.Path.{_≡_, refl, sym, ap, _∙_}
+use native.Mathlib.Omega.{arith}
+use lib.ListN.{length}
+use Rattle.block.specs.Block.{usedIn, entriesEach, entryAt}
+use Rattle.entry.specs.Interface.{interfaceSize, interfaceOk}
+use Rattle.entry.specs.Route.{routeSize, routeOk}
+use Rattle.sheet.specs.Rules.{interfaceKind, routeKind, interfaceRight, routeRight}
+use Rattle.sheet.specs.Sheet.{blocks, blockAt, interfaceBlocks, interfacesIn, routesIn, entriesIn, validSheet, refused, counted, layoutOf}
+use Rattle.sheet.specs.Tables.{placeOf, interfaceOf, routeOf}
+use Rattle.sheet.specs.declared.layout.Layout.{Layout}
+use Rattle.sheet.proofs.Valid.{Valid, valid, interface-run, route-run}
+use Rattle.sheet.proofs.Places.{There, entry-there}
+use Rattle.sheet.proofs.Inside.{interface-in, route-in}
+
+-- the layout of a valid sheet, and of any other
+pub layout-valid : (s : List ℕ) → validSheet s ≡ true → layoutOf s ≡ counted s
+unfolding layoutOf
+layout-valid s e = rw e
+
+pub layout-refused : (s : List ℕ) → validSheet s ≡ false → layoutOf s ≡ refused
+unfolding layoutOf
+layout-refused s e = rw e
+
+pub valid-told : (s : List ℕ) → layoutOf s .valid ≡ validSheet s
+unfolding counted
+valid-told s = by-flag (validSheet s) refl where
+  by-flag : (t : Bool) → validSheet s ≡ t → layoutOf s .valid ≡ validSheet s
+  by-flag true e = rw (layout-valid s e, e)
+  by-flag false e = rw (layout-refused s e, e)
+
+-- where something is counted the sheet is valid
+counts-valid : (s : List ℕ) (count : Layout → ℕ) (i : ℕ) → count refused ≡ 0 → i < count (layoutOf s) → validSheet s ≡ true
+counts-valid s count i none h = by-flag (validSheet s) refl where
+  by-flag : (t : Bool) → validSheet s ≡ t → validSheet s ≡ true
+  by-flag true e = e
+  by-flag false e = absurd (omega (arith, none, rw (layout-refused s e) at h))
+
+module _ (s : List ℕ) (i : ℕ) (there : i < layoutOf s .interfaces) where
+  pub interface-valid : validSheet s ≡ true
+  interface-valid = counts-valid s (λ (l : Layout). l .interfaces) i refl there
+
+  pub interface-few : i < 64
+  unfolding counted
+  interface-few = omega (arith, rw (layout-valid s interface-valid) at there, valid s interface-valid .few)
+
+  interface-there : There s interfaceSize interfaceRight 0 i
+  unfolding counted interfacesIn
+  interface-there =
+      entry-there s interfaceKind interfaceSize interfaceRight 0 (interfaceBlocks s) (interface-run s (valid s interface-valid))
+      (interfaceBlocks s) (omega arith) i (rw (layout-valid s interface-valid) at there) (omega arith)
+
+  pub interface-bytes : placeOf interfaceSize 0 i + interfaceSize ≤ length s
+  interface-bytes = interface-there .bytes
+
+  pub interface-keeps : interfaceOk (interfaceOf s i) ≡ true
+  unfolding interfaceOf
+  interface-keeps =
+      rw (interface-in s (512 * (0 + i / 21)) 512 (4 + 24 * (i % 21)) (interface-there .inside)) at (interface-there .rules)
+
+module _ (s : List ℕ) (k : ℕ) (there : k < layoutOf s .routes) where
+  pub route-valid : validSheet s ≡ true
+  route-valid = counts-valid s (λ (l : Layout). l .routes) k refl there
+
+  route-there : There s routeSize (routeRight (interfacesIn s)) (interfaceBlocks s) k
+  unfolding counted routesIn
+  route-there =
+      let v = valid s route-valid in
+      entry-there s routeKind routeSize (routeRight (interfacesIn s)) (interfaceBlocks s) (blocks s) (route-run s v) (blocks s - interfaceBlocks s)
+      (omega (arith, v .within)) k (rw (layout-valid s route-valid) at there) (omega arith)
+
+  pub route-bytes : placeOf routeSize (interfaceBlocks s) k + routeSize ≤ length s
+  route-bytes = route-there .bytes
+
+  pub route-keeps : routeOk (layoutOf s .interfaces) (routeOf s k) ≡ true
+  unfolding counted routeOf
+  route-keeps =
+      rw (layout-valid s route-valid)
+      (rw (route-in s (512 * (interfaceBlocks s + k / 9)) 512 (4 + 56 * (k % 9)) (route-there .inside)) at (route-there .rules))

@@ -1,0 +1,36 @@
+-- The rules on one block of a sheet, of either kind: its frame, its switches, and each entry in use.
+use Prim.Native.Nat.{ℕ}
+use mathlib.Core.Bool.{Bool, _&&_, _||_}
+use mathlib.Core.List.{List}
+use lib.Dec.{eqb}
+use Rattle.block.specs.Block.{usedIn, switchesOf, entryAt, frameOk}
+use Rattle.entry.specs.Interface.{interfaceAt, interfaceOk}
+use Rattle.entry.specs.Route.{routeAt, routeOk}
+use Rattle.sheet.specs.Every.{every}
+
+-- the kinds of blocks
+abbrev pub interfaceKind : ℕ
+interfaceKind = 1
+
+abbrev pub routeKind : ℕ
+routeKind = 2
+
+-- value 1 in block 0 means tracing is prohibited; all other switch bits are zero
+abbrev pub switchesOk : ℕ → ℕ → Bool
+switchesOk number switches = eqb switches 0 || (eqb number 0 && eqb switches 1)
+
+-- the interface, or the route, that begins at a place keeps its rules
+abbrev pub interfaceRight : List ℕ → ℕ → Bool
+interfaceRight b at = interfaceOk (interfaceAt b at)
+
+abbrev pub routeRight : ℕ → List ℕ → ℕ → Bool
+routeRight interfaces b at = routeOk interfaces (routeAt b at)
+
+-- the first n entries of a block, each of a size, keep their rules
+abbrev pub entriesOk : ℕ → (List ℕ → ℕ → Bool) → List ℕ → ℕ → Bool
+entriesOk size right b = every (λ j. right b (entryAt size j))
+
+-- a block of a kind, with entries of a size, and with its number; `partly` where it may be partly filled
+unfoldable pub blockOk : ℕ → ℕ → (List ℕ → ℕ → Bool) → ℕ → Bool → List ℕ → Bool
+blockOk kind size right number partly b =
+    frameOk kind size number partly b && switchesOk number (switchesOf b) && entriesOk size right b (usedIn b)

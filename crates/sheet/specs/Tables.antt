@@ -1,0 +1,46 @@
+-- Reading a valid sheet: interfaces and routes by their numbers, the prohibition, and who holds an address.
+use Prim.Native.Nat.{ℕ, zero, suc, _+_, _*_, _/_, _%_}
+use mathlib.Core.Bool.{Bool, cond}
+use mathlib.Core.List.{List, [], _∷_}
+use lib.Dec.{eqb}
+use Rattle.block.specs.Block.{blockSize, switchesOf, entriesEach, entryAt}
+use Rattle.entry.specs.Interface.{interfaceSize, interfaceAt}
+use Rattle.entry.specs.Route.{routeSize, routeAt}
+use Rattle.entry.specs.declared.interface.Interface.{Interface}
+use Rattle.entry.specs.declared.route.Route.{Route}
+use Rattle.sheet.specs.Every.{listed}
+use Rattle.sheet.specs.Sheet.{blockAt, interfaceBlocks, layoutOf}
+use Rattle.sheet.specs.declared.tables.Found.{Found}
+use Rattle.sheet.specs.declared.tables.Found.the-variants.{At, Nothing}
+
+-- where entry i of a kind begins: the entries of a size run on over the blocks, from block `first` on
+abbrev pub placeOf : ℕ → ℕ → ℕ → ℕ
+placeOf size first i = blockSize * (first + i / entriesEach size) + entryAt size (i % entriesEach size)
+
+-- interface i and route k
+unfoldable pub interfaceOf : List ℕ → ℕ → Interface
+interfaceOf s i = interfaceAt s (placeOf interfaceSize 0 i)
+
+unfoldable pub routeOf : List ℕ → ℕ → Route
+routeOf s k = routeAt s (placeOf routeSize (interfaceBlocks s) k)
+
+-- all of them, in order
+unfoldable pub interfacesOf : List ℕ → List Interface
+interfacesOf s = listed (interfaceOf s) 0 (layoutOf s .interfaces)
+
+unfoldable pub routesOf : List ℕ → List Route
+routesOf s = listed (routeOf s) 0 (layoutOf s .routes)
+
+-- switch value 1 in block 0: tracing is prohibited
+unfoldable pub prohibitedOf : List ℕ → Bool
+prohibitedOf s = eqb (switchesOf (blockAt s 0)) 1
+
+-- the lowest of the interfaces, the first of them numbered i, that holds an address
+unfoldable pub holderFrom : ℕ → ℕ → List Interface → Found
+holderFrom address i [] = Nothing
+holderFrom address i (x ∷ xs) =
+    let later = holderFrom address (i + 1) xs in
+    cond (eqb (x .address) address) (At i) later
+
+unfoldable pub holderOf : List ℕ → ℕ → Found
+holderOf s address = holderFrom address 0 (interfacesOf s)

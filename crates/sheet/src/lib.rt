@@ -1,0 +1,12 @@
+// A router's sheet: checked, and its tables read.
+mod layout;
+mod rules;
+mod tables;
+
+pub use layout::Layout;
+pub use layout::check;
+pub use tables::Found;
+pub use tables::holder;
+pub use tables::interface;
+pub use tables::prohibited;
+pub use tables::route;

@@ -1,0 +1,71 @@
+// The rules on one block of a sheet.
+ghost use mathlib.Core.Path.{_≡_};
+ghost use Prim.Native.Nat.{_≤_, _<_};
+ghost use lib.ListN.{length};
+ghost use Rattle.block.specs.Block.{blockSize};
+ghost use Rattle.entry.specs.Interface.{interfaceSize};
+ghost use Rattle.entry.specs.Route.{routeSize};
+ghost use Rattle.sheet.specs.Rules.{interfaceKind, routeKind, switchesOk, interfaceRight, routeRight, entriesOk, blockOk};
+
+// A byte as a wider number.
+pub fn wide(x: u8) -> usize
+    ensures { λ r. ⌜ (r ≡ x) × (r < 256) ⌝ }
+{
+    x as usize
+}
+
+fn switches_ok(number: u16, switches: u16) -> bool
+    ensures { λ r. ⌜ r ≡ switchesOk number switches ⌝ }
+{
+    (switches == 0) | ((number == 0) & (switches == 1))
+}
+
+// Whether the first `used` interfaces of a block keep their rules.
+fn interfaces_ok(b: &[u8], used: usize) -> bool
+    requires { ⌜ (length (now b) ≡ blockSize) × (used ≤ 21) ⌝ }
+    ensures { λ r. ⌜ r ≡ entriesOk interfaceSize interfaceRight (now (b .entry)) used ⌝ }
+{
+    let mut ok = true;
+    let mut j: usize = 0;
+    while j < used {
+        ok = ok & entry::interface_ok(entry::interface_at(b, 4 + 24 * j));
+        j += 1;
+    }
+    ok
+}
+
+// Whether the first `used` routes of a block keep their rules.
+fn routes_ok(b: &[u8], used: usize, interfaces: u16) -> bool
+    requires { ⌜ (length (now b) ≡ blockSize) × (used ≤ 9) × (interfaces ≤ 64) ⌝ }
+    ensures { λ r. ⌜ r ≡ entriesOk routeSize (routeRight interfaces) (now (b .entry)) used ⌝ }
+{
+    let mut ok = true;
+    let mut j: usize = 0;
+    while j < used {
+        ok = ok & entry::route_ok(interfaces, entry::route_at(b, 4 + 56 * j));
+        j += 1;
+    }
+    ok
+}
+
+// Whether a block is an interface block that keeps its rules.
+pub fn interface_block_ok(b: &[u8], number: u16, partly: bool) -> bool
+    requires { ⌜ length (now b) ≡ blockSize ⌝ }
+    ensures { λ r. ⌜ r ≡ blockOk interfaceKind interfaceSize interfaceRight number partly (now (b .entry)) ⌝ }
+{
+    if !block::frame_ok(b, 1, 24, number, partly) {
+        return false;
+    }
+    switches_ok(number, wire::be16(b, 508)) & interfaces_ok(b, wide(b[1]))
+}
+
+// Whether a block is a route block that keeps its rules, where there are so many interfaces.
+pub fn route_block_ok(b: &[u8], number: u16, partly: bool, interfaces: u16) -> bool
+    requires { ⌜ (length (now b) ≡ blockSize) × (interfaces ≤ 64) ⌝ }
+    ensures { λ r. ⌜ r ≡ blockOk routeKind routeSize (routeRight interfaces) number partly (now (b .entry)) ⌝ }
+{
+    if !block::frame_ok(b, 2, 56, number, partly) {
+        return false;
+    }
+    switches_ok(number, wire::be16(b, 508)) & routes_ok(b, wide(b[1]), interfaces)
+}
