@@ -1,0 +1,3 @@
+-- Laws that this crate's proofs and the crates above cite.
+pub mod Cut
+pub mod Turns
