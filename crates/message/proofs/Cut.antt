@@ -36,10 +36,10 @@ size-right kind size e =
     ⊎-elim
     (λ h. let p = both (eqb kind standard) _ h in let q : size ≡ standardSize = eqb-true _ _ (p .1) in (omega arith, λ k. q))
     (λ h.
-      let p = both (eqb kind augmented && leb augmentedLeast size) _ h in
-      let q = both (eqb kind augmented) _ (p .0) in
-      let k : kind ≡ augmented = eqb-true _ _ (q .0) in
-      (leb-true _ _ (q .1), λ l. absurd (omega arith)))
+    let p = both (eqb kind augmented && leb augmentedLeast size) _ h in
+    let q = both (eqb kind augmented) _ (p .0) in
+    let k : kind ≡ augmented = eqb-true _ _ (q .0) in
+    (leb-true _ _ (q .1), λ l. absurd (omega arith)))
     (one-of (eqb kind standard && eqb size standardSize) _ e)
 
 pub begun : (rest : List ℕ) → begins rest ≡ true → Begun rest
@@ -74,13 +74,13 @@ turns-enough (suc n) zero at rest h k =
 turns-enough (suc n) (suc m) at rest h k =
     ⊎-elim
     (λ e.
-      let b = begun rest e in
-      let size : ℕ = be16 rest 1 in
-      let fewer : (t : ℕ) → length rest ≤ suc t → length (drop size rest) ≤ t =
-            λ t l. rw (length-drop size rest) (omega (arith, b .least)) in
-      more-by n at rest e
-      ∙ ap (λ (l : List Block). blockAt at rest ∷ l) (turns-enough n m (at + size) (drop size rest) (fewer n h) (fewer m k))
-      ∙ sym (more-by m at rest e))
+    let b = begun rest e in
+    let size : ℕ = be16 rest 1 in
+    let fewer : (t : ℕ) → length rest ≤ suc t → length (drop size rest) ≤ t =
+    λ t l. rw (length-drop size rest) (omega (arith, b .least)) in
+    more-by n at rest e
+    ∙ ap (λ (l : List Block). blockAt at rest ∷ l) (turns-enough n m (at + size) (drop size rest) (fewer n h) (fewer m k))
+    ∙ sym (more-by m at rest e))
     (λ e. none-by (suc n) at rest e ∙ sym (none-by (suc m) at rest e))
     (decided (begins rest))
 
@@ -108,16 +108,16 @@ module _
     (P : ℕ → List ℕ → Type 0)
     (ends : (at : ℕ) (rest : List ℕ) → begins rest ≡ false → P at rest)
     (goes-on : (at : ℕ) (rest : List ℕ) → begins rest ≡ true → P (at + be16 rest 1) (drop (be16 rest 1) rest) → P at rest)
-    where
-  by-turns : (n at : ℕ) (rest : List ℕ) → length rest ≤ n → P at rest
-  by-turns zero at rest h = ends at rest (too-short rest (omega arith))
-  by-turns (suc n) at rest h =
-      ⊎-elim
-      (λ e.
+  where
+    by-turns : (n at : ℕ) (rest : List ℕ) → length rest ≤ n → P at rest
+    by-turns zero at rest h = ends at rest (too-short rest (omega arith))
+    by-turns (suc n) at rest h =
+        ⊎-elim
+        (λ e.
         let b = begun rest e in
         goes-on at rest e (by-turns n (at + be16 rest 1) (drop (be16 rest 1) rest) (rw (length-drop (be16 rest 1) rest) (omega (arith, b .least)))))
-      (ends at rest)
-      (decided (begins rest))
+        (ends at rest)
+        (decided (begins rest))
 
-  pub by-blocks : (at : ℕ) (rest : List ℕ) → P at rest
-  by-blocks at rest = by-turns (length rest) at rest (omega arith)
+    pub by-blocks : (at : ℕ) (rest : List ℕ) → P at rest
+    by-blocks at rest = by-turns (length rest) at rest (omega arith)

@@ -29,18 +29,18 @@ unfoldable pub blocksSeen : List ℕ → Blocks
 blocksSeen s = record { end = blocksEnd s; count = standardCount s; last = lastStandard s }
 
 -- a header of zeros, and the blocks of no message
-unfoldable pub noHeader : Header
+abbrev pub noHeader : Header
 noHeader = record { kind = 0; length = 0; hops = 0; group = 0; source = 0; client = 0; id = 0; port = 0 }
 
-unfoldable pub noBlocks : Blocks
+abbrev pub noBlocks : Blocks
 noBlocks = record { end = 0; count = 0; last = 0 }
 
 -- a refused message has its number, and zeros for all else
-abbrev pub refused : ℕ → Checked
+unfoldable pub refused : ℕ → Checked
 refused number = record { number = number; header = noHeader; blocks = noBlocks }
 
 -- an accepted one has number 0, its header, and what was seen of its blocks
-abbrev pub accepted : List ℕ → Checked
+unfoldable pub accepted : List ℕ → Checked
 accepted s = record { number = 0; header = headerOf s; blocks = blocksSeen s }
 
 unfoldable pub checkOf : List ℕ → Checked

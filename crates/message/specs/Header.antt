@@ -20,7 +20,8 @@ headerOf s =
       source = be32 s 8;
       client = be32 s 12;
       id = be16 s 16;
-      port = be16 s 18 }
+      port = be16 s 18;
+    }
 
 -- a Query or a Request, which are what a router takes
 abbrev pub queryOrRequest : Header → Bool

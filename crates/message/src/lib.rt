@@ -9,14 +9,23 @@ ghost use Rattle.message.specs.Blocks.{fitsIn, rightForm, blocksEnd};
 ghost use Rattle.message.specs.Check.{blocksSeen, refused, checkOf};
 
 const HEADER_SIZE: usize = 20;
+
 const HEADER_LENGTH: u16 = 20;
+
 const MOST: usize = 1472;
+
 const QUERY: u8 = 1;
+
 const REQUEST: u8 = 2;
+
 const STANDARD: u8 = 4;
+
 const AUGMENTED: u8 = 5;
+
 const STANDARD_SIZE: usize = 52;
+
 const AUGMENTED_LEAST: usize = 8;
+
 const AUGMENTED_UNIT: usize = 4;
 
 // The header of a message. `kind` is its type, `group` the multicast address.
@@ -125,5 +134,71 @@ pub fn blocks_of(s: &[u8]) -> Blocks
         end: at,
         count,
         last,
+    }
+}
+
+// Whether what follows the header keeps the rules of the message's type; `end` is where the blocks end.
+fn right_form(s: &[u8], end: usize) -> bool
+    requires { ⌜ (headerSize ≤ length (now s)) × (end ≡ blocksEnd (now s)) ⌝ }
+    ensures { λ r. ⌜ r ≡ rightForm (now (s .entry)) ⌝ }
+{
+    if s[0] == QUERY {
+        return s.len() == HEADER_SIZE;
+    }
+    if s.len() == HEADER_SIZE {
+        return false;
+    }
+    (end == s.len()) & (s[HEADER_SIZE] == STANDARD)
+}
+
+// The answer for a message that is refused.
+fn refused(number: u32) -> Checked
+    ensures { λ r. ⌜ r ≡ refused number ⌝ }
+{
+    let header = Header {
+        kind: 0,
+        length: 0,
+        hops: 0,
+        group: 0,
+        source: 0,
+        client: 0,
+        id: 0,
+        port: 0,
+    };
+    let blocks = Blocks {
+        end: 0,
+        count: 0,
+        last: 0,
+    };
+    Checked {
+        number,
+        header,
+        blocks,
+    }
+}
+
+// The first of rows 5 to 13 that applies to a message, or 0 with its header and its blocks.
+pub fn check(s: &[u8]) -> Checked
+    ensures { λ r. ⌜ r ≡ checkOf (now (s .entry)) ⌝ }
+{
+    if s.len() < HEADER_SIZE {
+        return refused(5);
+    }
+    if MOST < s.len() {
+        return refused(5);
+    }
+    let header = header_of(s);
+    let number = header_number(header);
+    if number != 0 {
+        return refused(number);
+    }
+    let blocks = blocks_of(s);
+    if !right_form(s, blocks.end) {
+        return refused(13);
+    }
+    Checked {
+        number: 0,
+        header,
+        blocks,
     }
 }

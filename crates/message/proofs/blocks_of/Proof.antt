@@ -87,11 +87,11 @@ loop-again : tie.Need-loop-again Inv-loop μ-loop
 loop-again c =
     let b = c .before .before .before in
     let so-far = b .before .before .before .before .loop .inv in
-    let left = c .before .before .if1 .left in
-    (
+    let left = c .before .before .if1 .left in (
       omega (arith, size-inside _ _ _ _ (b .fits-in .ensures) left),
       search count-inside,
-      one-on _ _ _ _ (so-far .2) _ _ (b .before .be16 .ensures) (b .fits-in .ensures) _ _ left (c .before .either .ensures) (c .either2 .ensures))
+      one-on _ _ _ _ (so-far .2) _ _ (b .before .be16 .ensures) (b .fits-in .ensures) _ _ left (c .before .either .ensures) (c .either2 .ensures),
+    )
 
 -- src/lib.rt:103:1
 returns-2 : tie.Need-returns-2 Inv-loop μ-loop
