@@ -2,3 +2,4 @@
 pub mod Cut
 pub mod Turns
 pub mod Rows
+pub mod Standards

@@ -1,10 +1,11 @@
 -- The blocks behind the header (document 01, "Messages"): a message is cut into blocks by stepping from each to the next by
 -- its length, and all that is said of blocks is said of that list.
 use Prim.Native.Nat.{ℕ, zero, suc, _+_, _%_}
+use mathlib.Core.Path.{_≡_}
 use mathlib.Core.Bool.{Bool, true, false, cond, _&&_, _||_}
 use mathlib.Core.List.{List, [], _∷_}
 use lib.Dec.{leb, eqb}
-use lib.ListN.{length, drop}
+use lib.ListN.{length, getD, drop}
 use Rattle.wire.specs.Numbers.{byteAt, be16}
 use Rattle.message.specs.Format.{headerSize, query, standard, augmented, standardSize, augmentedLeast, augmentedUnit}
 
@@ -65,13 +66,19 @@ unfoldable pub lastOr : ℕ → List ℕ → ℕ
 lastOr none [] = none
 lastOr none (place ∷ others) = lastOr place others
 
--- the places of a message's type 4 blocks, how many they are, and the last of them (0 where there are none)
+-- the places of a message's type 4 blocks
 unfoldable pub standards : List ℕ → List ℕ
 standards s = standardPlaces (blocksOf s)
 
+-- how many they are
 abbrev pub standardCount : List ℕ → ℕ
 standardCount s = length (standards s)
 
+-- the place of type 4 block k, counted from 0
+abbrev pub standardAt : List ℕ → ℕ → ℕ
+standardAt s k = getD (standards s) k 0
+
+-- the last of them, 0 where there are none
 abbrev pub lastStandard : List ℕ → ℕ
 lastStandard s = lastOr 0 (standards s)
 
@@ -99,3 +106,9 @@ requestForm s = fillsMessage s && standardFirst (blocksOf s)
 -- what follows the header keeps the rules of the message's type
 unfoldable pub rightForm : List ℕ → Bool
 rightForm s = cond (eqb (byteAt s 0) query) (queryForm s) (requestForm s)
+
+-- the bytes of a type 4 block: 52, which begin with its type and its length
+pub record StandardBlock (bytes : List ℕ) : Type 0 where
+  pub long : length bytes ≡ standardSize
+  pub kind : byteAt bytes 0 ≡ standard
+  pub size : be16 bytes 1 ≡ standardSize
