@@ -3,3 +3,5 @@ pub mod Cut
 pub mod Turns
 pub mod Rows
 pub mod Standards
+pub mod Append
+pub mod Write

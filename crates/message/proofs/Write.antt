@@ -1,0 +1,116 @@
+-- Laws of writing one byte into a message: the type byte, or a byte behind the type and the length of a type 4 block (its
+-- forwarding code is one). Either keeps the blocks, and all other fields of the header.
+use Prim.Native.Nat.{ℕ, zero, suc, _+_, _-_, _^_, _≤_, _<_}
+use mathlib.Core.Path.{_≡_, refl, sym, ap, _∙_}
+use mathlib.Core.Bool.{Bool, true, false, cond, _&&_}
+use mathlib.Core.List.{List, [], _∷_}
+use native.Mathlib.Omega.{arith}
+use native.Mathlib.Nat.{add-zero, add-assoc}
+use borrow.Author.Tests.{ne-eqb}
+use lib.Dec.{eqb, lit≤}
+use lib.ListN.{length, getD, drop, set, length-set, length-drop}
+use lib.Seq.{getD-set-same, getD-set-other, drop-set-lt, drop-set-add}
+use Rattle.wire.specs.Numbers.{byteAt, be, be16}
+use Rattle.wire.proofs.Laws.{be-same}
+use Rattle.message.specs.declared.Header.{Header}
+use Rattle.message.specs.Format.{headerSize, query, standard, standardSize, codeOffset}
+use Rattle.message.specs.Header.{headerOf}
+use Rattle.message.specs.Blocks.{Block, blockAt, begins, fitsIn, blocksFrom, blocksOf, standardPlaces, standards, standardCount, standardAt, lastStandard, blocksEnd, standardFirst, fillsMessage, requestForm, rightForm}
+use Rattle.message.proofs.Cut.{begun, block-first}
+use Rattle.message.proofs.Standards.{by-standard, last-is}
+
+-- a number of which the byte written is none
+be-untouched : (d : ℕ) (s : List ℕ) (at v j : ℕ) → ((k : ℕ) → k < 2 ^ d → j + k ≡ at → ⊥) → be d (set s at v) j ≡ be d s j
+be-untouched d s at v j f = be-same d (set s at v) s j j (λ k h. getD-set-other s at (j + k) v 0 (f k h))
+
+-- the type byte
+module _ (s : List ℕ) (v : ℕ) where
+  pub typed-blocks : blocksOf (set s 0 v) ≡ blocksOf s
+  unfolding blocksOf
+  typed-blocks = rw (drop-set-lt headerSize s 0 v (lit≤ tt))
+
+  pub typed-standards : standards (set s 0 v) ≡ standards s
+  unfolding standards
+  typed-standards = rw typed-blocks
+
+  pub typed-fills : fillsMessage (set s 0 v) ≡ fillsMessage s
+  unfolding fillsMessage blocksEnd
+  typed-fills = rw (typed-blocks, length-set s 0 v)
+
+  pub typed-form : 0 < length s → (v ≡ query → ⊥) → rightForm (set s 0 v) ≡ requestForm s
+  unfolding rightForm
+  typed-form h k = rw (getD-set-same s 0 v 0 h, ne-eqb v query k, typed-fills, typed-blocks)
+
+  pub typed-header : 0 < length s
+      → headerOf (set s 0 v)
+      ≡ record {
+        kind = v;
+        length = headerOf s .length;
+        hops = headerOf s .hops;
+        group = headerOf s .group;
+        source = headerOf s .source;
+        client = headerOf s .client;
+        id = headerOf s .id;
+        port = headerOf s .port }
+  unfolding headerOf
+  typed-header h =
+      let same : (d j : ℕ) → 0 < j → be d (set s 0 v) j ≡ be d s j = λ d j l. be-untouched d s 0 v j (λ k m e. omega arith) in
+      rw (
+        getD-set-same s 0 v 0 h,
+        same 1 1 (lit≤ tt),
+        getD-set-other s 0 3 v 0 (λ e. omega arith),
+        same 2 4 (lit≤ tt),
+        same 2 8 (lit≤ tt),
+        same 2 12 (lit≤ tt),
+        same 1 16 (lit≤ tt),
+        same 1 18 (lit≤ tt),
+      )
+
+-- a byte behind the type and the length of the block that begins
+module _ (rest : List ℕ) (i v : ℕ) (behind : 3 ≤ i) where
+  kind-kept : byteAt (set rest i v) 0 ≡ byteAt rest 0
+  kind-kept = getD-set-other rest i 0 v 0 (λ e. omega arith)
+
+  size-kept : be16 (set rest i v) 1 ≡ be16 rest 1
+  size-kept = be-untouched 1 rest i v 1 (λ k h e. omega arith)
+
+  begins-kept : begins (set rest i v) ≡ begins rest
+  unfolding begins
+  begins-kept = rw (kind-kept, size-kept, length-set rest i v)
+
+  -- what stands behind the block is what stood there, with the byte written if it lies there
+  first-kept : (at : ℕ) → begins rest ≡ true
+      → blocksFrom at (set rest i v) ≡ blockAt at rest ∷ blocksFrom (at + be16 rest 1) (drop (be16 rest 1) (set rest i v))
+  first-kept at b = rw (block-first at (set rest i v) (begins-kept ∙ b), kind-kept, size-kept)
+
+-- a byte behind the type and the length of a type 4 block of a message
+module _ (j v : ℕ) (behind : 3 ≤ j) (within : j < standardSize) where
+  record Kept (at : ℕ) (rest : List ℕ) (p : ℕ) : Type 0 where
+    low : at ≤ p
+    kept : blocksFrom at (set rest (p - at + j) v) ≡ blocksFrom at rest
+
+  kept-front : (at : ℕ) (rest : List ℕ) → begins rest ≡ true → byteAt rest 0 ≡ standard → Kept at rest at
+  kept-front at rest b k =
+      let place : at - at + j ≡ j = omega arith in
+      record {
+        low = omega arith;
+        kept =
+          rw (place, first-kept rest j v behind at b, drop-set-lt (be16 rest 1) rest j v (omega (arith, begun rest b .standard-size k)), block-first at rest b) }
+
+  kept-on : (at : ℕ) (rest : List ℕ) (p : ℕ) → begins rest ≡ true → Kept (at + be16 rest 1) (drop (be16 rest 1) rest) p → Kept at rest p
+  kept-on at rest p b h =
+      let size : ℕ = be16 rest 1 in
+      let i : ℕ = p - (at + size) + j in
+      let place : p - at + j ≡ size + i = omega (arith, h .low) in
+      record {
+        low = omega (arith, h .low);
+        kept = rw (place, first-kept rest (size + i) v (omega arith) at b, drop-set-add size rest i v, h .kept, block-first at rest b) }
+
+  pub written-blocks : (s : List ℕ) (k : ℕ) → k < standardCount s → blocksOf (set s (standardAt s k + j) v) ≡ blocksOf s
+  unfolding standards blocksOf
+  written-blocks s k h =
+      let rest : List ℕ = drop headerSize s in
+      let p : ℕ = standardAt s k in
+      let g = by-standard Kept kept-front kept-on headerSize rest k h in
+      let place : p + j ≡ headerSize + (p - headerSize + j) = omega (arith, g .low) in
+      rw (place, drop-set-add headerSize s (p - headerSize + j) v) (g .kept)
