@@ -64,7 +64,7 @@ module _ (block : List ℕ) (b : StandardBlock block) where
       let g = begun rest e in
       let size : ℕ = be16 rest 1 in
       let left : totalSize (blocksFrom (at + size) (drop size rest)) ≡ length (drop size rest) =
-            rw (length-drop size rest) (omega (arith, rw (block-first at rest e) at t)) in
+      rw (length-drop size rest) (omega (arith, rw (block-first at rest e) at t)) in
       let far : at + size + length (drop size rest) ≡ at + length rest = rw (length-drop size rest) (omega (arith, g .inside)) in
       rw (
         block-first at (rest ++ block) (begins-still rest block e),

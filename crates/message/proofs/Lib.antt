@@ -5,3 +5,4 @@ pub mod Rows
 pub mod Standards
 pub mod Append
 pub mod Write
+pub mod Accept

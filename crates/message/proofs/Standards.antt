@@ -7,11 +7,14 @@ use mathlib.Core.Logic.{⊎-elim}
 use native.Mathlib.Omega.{arith}
 use native.Mathlib.Nat.{add-zero}
 use borrow.Author.Tests.{eqb-true}
-use lib.Dec.{eqb}
+use lib.Dec.{eqb, lit≤}
 use lib.ListN.{length, getD, drop, length-drop}
+use lib.Seq.{length-take-le, getD-take, drop-drop}
 use Rattle.wire.specs.Numbers.{byteAt, be16}
+use Rattle.wire.specs.Parts.{part}
+use Rattle.wire.proofs.Laws.{be-part}
 use Rattle.message.specs.Format.{headerSize, standard, standardSize}
-use Rattle.message.specs.Blocks.{Block, blockAt, begins, blocksFrom, blocksOf, totalSize, standardPlaces, lastOr, standards, standardCount, standardAt, lastStandard, blocksEnd, standardFirst}
+use Rattle.message.specs.Blocks.{Block, blockAt, begins, blocksFrom, blocksOf, totalSize, standardPlaces, lastOr, standards, standardCount, standardAt, lastStandard, blocksEnd, standardFirst, StandardBlock}
 use Rattle.message.proofs.Cut.{decided, begun, no-blocks, block-first, by-blocks}
 use Rattle.message.proofs.Turns.{standard-more, standard-same}
 
@@ -36,34 +39,34 @@ module _
     (Q : ℕ → List ℕ → ℕ → Type 0)
     (in-front : (at : ℕ) (rest : List ℕ) → begins rest ≡ true → byteAt rest 0 ≡ standard → Q at rest at)
     (goes-on : (at : ℕ) (rest : List ℕ) (p : ℕ) → begins rest ≡ true → Q (at + be16 rest 1) (drop (be16 rest 1) rest) p → Q at rest p)
-    where
-  Each : ℕ → List ℕ → List ℕ → Type 0
-  Each at rest places = (k : ℕ) → k < length places → Q at rest (getD places k 0)
+  where
+    Each : ℕ → List ℕ → List ℕ → Type 0
+    Each at rest places = (k : ℕ) → k < length places → Q at rest (getD places k 0)
 
-  each-more : (at : ℕ) (rest places : List ℕ) → Q at rest at → Each at rest places → Each at rest (at ∷ places)
-  unfolding Each
-  each-more at rest places q f zero h = q
-  each-more at rest places q f (suc k) h = f k (omega arith)
+    each-more : (at : ℕ) (rest places : List ℕ) → Q at rest at → Each at rest places → Each at rest (at ∷ places)
+    unfolding Each
+    each-more at rest places q f zero h = q
+    each-more at rest places q f (suc k) h = f k (omega arith)
 
-  each-behind : (at : ℕ) (rest : List ℕ) → begins rest ≡ true
-      → Each (at + be16 rest 1) (drop (be16 rest 1) rest) (standardPlaces (blocksFrom (at + be16 rest 1) (drop (be16 rest 1) rest)))
-      → Each at rest (standardPlaces (blocksFrom at rest))
-  unfolding Each
-  each-behind at rest b f =
-      let places : List ℕ = standardPlaces (behind at rest b) in
-      let g : Each at rest places = λ k h. goes-on at rest (getD places k 0) b (f k h) in
-      ⊎-elim
-      (λ e. rw (places-more at rest b e) (each-more at rest places (in-front at rest b (eqb-true _ _ e)) g))
-      (λ e. rw (places-same at rest b e) g)
-      (decided (eqb (byteAt rest 0) standard))
+    each-behind : (at : ℕ) (rest : List ℕ) → begins rest ≡ true
+        → Each (at + be16 rest 1) (drop (be16 rest 1) rest) (standardPlaces (blocksFrom (at + be16 rest 1) (drop (be16 rest 1) rest)))
+        → Each at rest (standardPlaces (blocksFrom at rest))
+    unfolding Each
+    each-behind at rest b f =
+        let places : List ℕ = standardPlaces (behind at rest b) in
+        let g : Each at rest places = λ k h. goes-on at rest (getD places k 0) b (f k h) in
+        ⊎-elim
+        (λ e. rw (places-more at rest b e) (each-more at rest places (in-front at rest b (eqb-true _ _ e)) g))
+        (λ e. rw (places-same at rest b e) g)
+        (decided (eqb (byteAt rest 0) standard))
 
-  pub by-standard : (at : ℕ) (rest : List ℕ) (k : ℕ) → k < length (standardPlaces (blocksFrom at rest))
-      → Q at rest (getD (standardPlaces (blocksFrom at rest)) k 0)
-  unfolding Each
-  by-standard =
-      by-blocks (λ at rest. Each at rest (standardPlaces (blocksFrom at rest)))
-      (λ at rest b. rw (no-places at rest b) (λ k h. absurd (omega arith)))
-      each-behind
+    pub by-standard : (at : ℕ) (rest : List ℕ) (k : ℕ) → k < length (standardPlaces (blocksFrom at rest))
+        → Q at rest (getD (standardPlaces (blocksFrom at rest)) k 0)
+    unfolding Each
+    by-standard =
+        by-blocks (λ at rest. Each at rest (standardPlaces (blocksFrom at rest)))
+        (λ at rest b. rw (no-places at rest b) (λ k h. absurd (omega arith)))
+        each-behind
 
 -- the blocks lie within the bytes that they were cut from, and those of type 4 take 52 bytes each
 pub sizes-inside : (at : ℕ) (rest : List ℕ) → totalSize (blocksFrom at rest) ≤ length rest
@@ -79,10 +82,10 @@ standards-inside =
     by-blocks (λ at rest. standardSize * length (standardPlaces (blocksFrom at rest)) ≤ totalSize (blocksFrom at rest))
     (λ at rest b. rw (no-places at rest b, no-blocks at rest b) (omega arith))
     (λ at rest b h.
-      ⊎-elim
-      (λ e. rw (places-more at rest b e, block-first at rest b) (omega (arith, begun rest b .standard-size (eqb-true _ _ e))))
-      (λ e. rw (places-same at rest b e, block-first at rest b) (omega arith))
-      (decided (eqb (byteAt rest 0) standard)))
+    ⊎-elim
+    (λ e. rw (places-more at rest b e, block-first at rest b) (omega (arith, begun rest b .standard-size (eqb-true _ _ e))))
+    (λ e. rw (places-same at rest b e, block-first at rest b) (omega arith))
+    (decided (eqb (byteAt rest 0) standard)))
 
 record Inside (at : ℕ) (rest : List ℕ) (p : ℕ) : Type 0 where
   low : at ≤ p
@@ -93,9 +96,38 @@ place-inside : (at : ℕ) (rest : List ℕ) (k : ℕ) → k < length (standardPl
 place-inside =
     by-standard Inside
     (λ at rest b k.
-      let g = begun rest b in
-      record { low = omega arith; high = omega (arith, g .inside, g .standard-size k) })
+    let g = begun rest b in
+    record { low = omega arith; high = omega (arith, g .inside, g .standard-size k) })
     (λ at rest p b i. record { low = omega (arith, i .low); high = omega (arith, i .low, i .high, begun rest b .inside, length-drop (be16 rest 1) rest) })
+
+-- each is a type 4 block
+record Whole (at : ℕ) (rest : List ℕ) (p : ℕ) : Type 0 where
+  low : at ≤ p
+  block : StandardBlock (part (p - at) standardSize rest)
+
+place-whole : (at : ℕ) (rest : List ℕ) (k : ℕ) → k < length (standardPlaces (blocksFrom at rest))
+    → Whole at rest (getD (standardPlaces (blocksFrom at rest)) k 0)
+place-whole =
+    by-standard Whole
+    (λ at rest b k.
+    let g = begun rest b in
+    let here : at - at ≡ 0 = omega arith in
+    record {
+      low = omega arith;
+      block =
+          rw here
+          (record {
+            long = length-take-le standardSize rest (omega (arith, g .inside, g .standard-size k));
+            kind = getD-take standardSize rest 0 0 (lit≤ tt) ∙ k;
+            size = be-part 1 rest 0 standardSize 1 (lit≤ tt) ∙ g .standard-size k;
+          });
+    })
+    (λ at rest p b w.
+    let there : p - at ≡ be16 rest 1 + (p - (at + be16 rest 1)) = omega (arith, w .low) in
+    record {
+      low = omega (arith, w .low);
+      block = rw (there, ← drop-drop (p - (at + be16 rest 1)) (be16 rest 1) rest) (w .block);
+    })
 
 -- the last of some places
 last-of : (none : ℕ) (places : List ℕ) → 0 < length places → lastOr none places ≡ getD places (length places - 1) 0
@@ -125,6 +157,13 @@ module _ (s : List ℕ) where
   pub standard-high : headerSize ≤ length s → (k : ℕ) → k < standardCount s → standardAt s k + standardSize ≤ length s
   unfolding standards blocksOf
   standard-high low k h = omega (arith, place-inside headerSize (drop headerSize s) k h .high, length-drop headerSize s)
+
+  pub standard-block : (k : ℕ) → k < standardCount s → StandardBlock (part (standardAt s k) standardSize s)
+  unfolding standards blocksOf
+  standard-block k h =
+      let w = place-whole headerSize (drop headerSize s) k h in
+      let there : standardAt s k ≡ headerSize + (standardAt s k - headerSize) = omega (arith, w .low) in
+      rw (there, ← drop-drop (standardAt s k - headerSize) headerSize s) (w .block)
 
   pub last-is : 0 < standardCount s → lastStandard s ≡ standardAt s (standardCount s - 1)
   last-is h = last-of 0 (standards s) h

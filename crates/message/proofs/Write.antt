@@ -17,11 +17,26 @@ use Rattle.message.specs.Format.{headerSize, query, standard, standardSi
 use Rattle.message.specs.Header.{headerOf}
 use Rattle.message.specs.Blocks.{Block, blockAt, begins, fitsIn, blocksFrom, blocksOf, standardPlaces, standards, standardCount, standardAt, lastStandard, blocksEnd, standardFirst, fillsMessage, requestForm, rightForm}
 use Rattle.message.proofs.Cut.{begun, block-first}
-use Rattle.message.proofs.Standards.{by-standard, last-is}
+use Rattle.message.proofs.Standards.{by-standard, last-is, last-low}
 
 -- a number of which the byte written is none
 be-untouched : (d : ℕ) (s : List ℕ) (at v j : ℕ) → ((k : ℕ) → k < 2 ^ d → j + k ≡ at → ⊥) → be d (set s at v) j ≡ be d s j
 be-untouched d s at v j f = be-same d (set s at v) s j j (λ k h. getD-set-other s at (j + k) v 0 (f k h))
+
+-- where the blocks and the length stay, so does all that is said of the blocks
+module _ (s t : List ℕ) (blocks : blocksOf t ≡ blocksOf s) (long : length t ≡ length s) where
+  pub same-standards : standards t ≡ standards s
+  unfolding standards
+  same-standards = rw blocks
+
+  pub same-request-form : requestForm t ≡ requestForm s
+  unfolding fillsMessage blocksEnd
+  same-request-form = rw (blocks, long)
+
+-- a header with another type
+abbrev pub retyped : ℕ → Header → Header
+retyped v h =
+    record { kind = v; length = h .length; hops = h .hops; group = h .group; source = h .source; client = h .client; id = h .id; port = h .port }
 
 -- the type byte
 module _ (s : List ℕ) (v : ℕ) where
@@ -30,28 +45,14 @@ module _ (s : List ℕ) (v : ℕ) where
   typed-blocks = rw (drop-set-lt headerSize s 0 v (lit≤ tt))
 
   pub typed-standards : standards (set s 0 v) ≡ standards s
-  unfolding standards
-  typed-standards = rw typed-blocks
+  typed-standards = same-standards s (set s 0 v) typed-blocks (length-set s 0 v)
 
-  pub typed-fills : fillsMessage (set s 0 v) ≡ fillsMessage s
-  unfolding fillsMessage blocksEnd
-  typed-fills = rw (typed-blocks, length-set s 0 v)
-
+  -- as the type of a Request or of a Reply, it leaves the form of a Request to be asked
   pub typed-form : 0 < length s → (v ≡ query → ⊥) → rightForm (set s 0 v) ≡ requestForm s
   unfolding rightForm
-  typed-form h k = rw (getD-set-same s 0 v 0 h, ne-eqb v query k, typed-fills, typed-blocks)
+  typed-form h k = rw (getD-set-same s 0 v 0 h, ne-eqb v query k) (same-request-form s (set s 0 v) typed-blocks (length-set s 0 v))
 
-  pub typed-header : 0 < length s
-      → headerOf (set s 0 v)
-      ≡ record {
-        kind = v;
-        length = headerOf s .length;
-        hops = headerOf s .hops;
-        group = headerOf s .group;
-        source = headerOf s .source;
-        client = headerOf s .client;
-        id = headerOf s .id;
-        port = headerOf s .port }
+  pub typed-header : 0 < length s → headerOf (set s 0 v) ≡ retyped v (headerOf s)
   unfolding headerOf
   typed-header h =
       let same : (d j : ℕ) → 0 < j → be d (set s 0 v) j ≡ be d s j = λ d j l. be-untouched d s 0 v j (λ k m e. omega arith) in
@@ -95,7 +96,8 @@ module _ (j v : ℕ) (behind : 3 ≤ j) (within : j < standardSize) where
       record {
         low = omega arith;
         kept =
-          rw (place, first-kept rest j v behind at b, drop-set-lt (be16 rest 1) rest j v (omega (arith, begun rest b .standard-size k)), block-first at rest b) }
+            rw (place, first-kept rest j v behind at b, drop-set-lt (be16 rest 1) rest j v (omega (arith, begun rest b .standard-size k)), block-first at rest b);
+      }
 
   kept-on : (at : ℕ) (rest : List ℕ) (p : ℕ) → begins rest ≡ true → Kept (at + be16 rest 1) (drop (be16 rest 1) rest) p → Kept at rest p
   kept-on at rest p b h =
@@ -104,7 +106,8 @@ module _ (j v : ℕ) (behind : 3 ≤ j) (within : j < standardSize) where
       let place : p - at + j ≡ size + i = omega (arith, h .low) in
       record {
         low = omega (arith, h .low);
-        kept = rw (place, first-kept rest (size + i) v (omega arith) at b, drop-set-add size rest i v, h .kept, block-first at rest b) }
+        kept = rw (place, first-kept rest (size + i) v (omega arith) at b, drop-set-add size rest i v, h .kept, block-first at rest b);
+      }
 
   pub written-blocks : (s : List ℕ) (k : ℕ) → k < standardCount s → blocksOf (set s (standardAt s k + j) v) ≡ blocksOf s
   unfolding standards blocksOf
@@ -114,3 +117,26 @@ module _ (j v : ℕ) (behind : 3 ≤ j) (within : j < standardSize) where
       let g = by-standard Kept kept-front kept-on headerSize rest k h in
       let place : p + j ≡ headerSize + (p - headerSize + j) = omega (arith, g .low) in
       rw (place, drop-set-add headerSize s (p - headerSize + j) v) (g .kept)
+
+-- a byte behind the header
+written-header : (s : List ℕ) (at v : ℕ) → headerSize ≤ at → headerOf (set s at v) ≡ headerOf s
+unfolding headerOf
+written-header s at v h =
+    let same : (d j : ℕ) → j + 2 ^ d ≤ headerSize → be d (set s at v) j ≡ be d s j = λ d j l. be-untouched d s at v j (λ k m e. omega arith) in
+    let byte : (j : ℕ) → j < headerSize → byteAt (set s at v) j ≡ byteAt s j = λ j l. getD-set-other s at j v 0 (λ e. omega arith) in
+    rw (byte 0 (lit≤ tt), same 1 1 (lit≤ tt), byte 3 (lit≤ tt), same 2 4 (lit≤ tt), same 2 8 (lit≤ tt), same 2 12 (lit≤ tt), same 1 16 (lit≤ tt), same 1 18 (lit≤ tt))
+
+-- the forwarding code of the last type 4 block
+module _ (s : List ℕ) (v : ℕ) (some : 0 < standardCount s) where
+  pub coded-blocks : blocksOf (set s (lastStandard s + codeOffset) v) ≡ blocksOf s
+  coded-blocks =
+      rw (last-is s some) (written-blocks codeOffset v (lit≤ tt) (lit≤ tt) s (standardCount s - 1) (omega arith))
+
+  pub coded-standards : standards (set s (lastStandard s + codeOffset) v) ≡ standards s
+  coded-standards = same-standards s (set s (lastStandard s + codeOffset) v) coded-blocks (length-set s (lastStandard s + codeOffset) v)
+
+  pub coded-request-form : requestForm (set s (lastStandard s + codeOffset) v) ≡ requestForm s
+  coded-request-form = same-request-form s (set s (lastStandard s + codeOffset) v) coded-blocks (length-set s (lastStandard s + codeOffset) v)
+
+  pub coded-header : headerOf (set s (lastStandard s + codeOffset) v) ≡ headerOf s
+  coded-header = written-header s (lastStandard s + codeOffset) v (omega (arith, last-low s some))
