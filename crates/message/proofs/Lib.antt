@@ -6,3 +6,4 @@ pub mod Standards
 pub mod Append
 pub mod Write
 pub mod Accept
+pub mod Determined

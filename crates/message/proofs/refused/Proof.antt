@@ -1,11 +1,9 @@
+-- `refused`: zeros but for the number.
 use mathlib.Core.Path.{refl}
 use Rattle.message.specs.Check.{refused}
 use Rattle.message.proofs.refused.Statement.{statement}
 use Rattle.message.proofs.refused.Tie as tie
-use Rattle.message.proofs.refused.Reads as reads
-use Rattle.message.proofs.refused.Lts as lts
 
--- src/lib.rt:146:1
 returns : tie.Need-returns
 unfolding refused
 returns c = refl
