@@ -1,27 +1,33 @@
--- Laws of accepted messages, those to which no row of 5 to 13 applies: what is known of one, that a Request has a type 4
--- block, and that one sent on with a block appended is accepted again.
+-- Laws of accepted messages, those to which no row of 5 to 13 applies: what is known of one, what the check answers for it,
+-- and that a Request has a type 4 block.
 use Prim.Native.Nat.{ℕ, zero, suc, _+_, _≤_, _<_}
 use mathlib.Core.Path.{_≡_, refl, sym, ap, _∙_}
-use mathlib.Core.Bool.{Bool, true, false, not, cond, _&&_, _||_}
-use mathlib.Core.List.{List, [], _∷_, _++_}
+use mathlib.Core.Bool.{Bool, true, false, not, cond}
+use mathlib.Core.List.{List, [], _∷_}
 use mathlib.Core.Logic.{_⊎_, inl, inr, ⊎-elim}
 use native.Mathlib.Omega.{arith}
 use borrow.Author.Tests.{le-ltb, eq-eqb, ne-eqb, ltb-false, eqb-true, eqb-false, not-true, not-false}
-use lib.Dec.{ltb, eqb}
-use lib.ListN.{length, set, length-append, length-set}
-use Rattle.wire.specs.Numbers.{byteAt}
+use lib.Dec.{ltb, eqb, lit≤}
+use lib.ListN.{length}
 use Rattle.wire.specs.Addresses.{unicast}
 use Rattle.wire.proofs.First.{passed}
 use Rattle.message.specs.declared.Header.{Header}
-use Rattle.message.specs.Format.{headerSize, most, query, request, standard, standardSize}
+use Rattle.message.specs.declared.Checked.{Checked}
+use Rattle.message.specs.Format.{headerSize, most, query, request, standardSize}
 use Rattle.message.specs.Header.{headerOf, queryOrRequest, rightLength, rightGroup, rightSource, namesNothing, rightClient, headerNumber}
-use Rattle.message.specs.Blocks.{Block, blocksOf, standardPlaces, standards, standardCount, fillsMessage, standardFirst, requestForm, rightForm, StandardBlock}
-use Rattle.message.specs.Check.{orElse, numberOf, refused, accepted, checkOf}
+use Rattle.message.specs.Blocks.{Block, blocksOf, standardPlaces, standards, standardCount, lastStandard, fillsMessage, standardFirst, requestForm, rightForm}
+use Rattle.message.specs.Check.{orElse, numberOf, blocksSeen, refused, accepted, checkOf}
 use Rattle.message.proofs.Cut.{decided, both, one-of}
 use Rattle.message.proofs.Turns.{standard-more}
-use Rattle.message.proofs.Rows.{header-alone}
-use Rattle.message.proofs.Append.{query-alone, request-formed, append-right-form, append-header}
-use Rattle.message.proofs.Write.{retyped, typed-form, typed-header}
+use Rattle.message.proofs.Append.{query-alone, request-formed}
+
+-- a bound on a chain of rows
+below : (t : Bool) (k rest : ℕ) → k < 14 → rest < 14 → cond t k rest < 14
+below true k rest h l = h
+below false k rest h l = l
+
+else-below : (n after : ℕ) → n < 14 → after < 14 → orElse n after < 14
+else-below n after = λ h l. below (eqb n 0) after n l h
 
 -- what the rows ask of a message
 pub record Accepted (s : List ℕ) : Type 0 where
@@ -84,15 +90,53 @@ applies-none s a =
     let port : headerOf s .port ≡ 0 → ⊥ = λ e. omega (arith, a .port) in
     rw (le-ltb _ _ (a .low), le-ltb _ _ (a .high), a .kind, eq-eqb _ _ (a .header), ne-eqb _ _ hops, a .group, a .source, a .pair, a .client, ne-eqb _ _ port, a .form)
 
--- the check's answer by its number
-pub checked-number : (s : List ℕ) → checkOf s .number ≡ numberOf s
-unfolding checkOf accepted refused
-checked-number s =
-    ⊎-elim (λ e. rw e (sym (eqb-true (numberOf s) 0 e))) (λ e. rw e) (decided (eqb (numberOf s) 0))
+-- the check's answer by its number: it is the table's, and where it is 0 the header and the blocks are the message's
+module _ (s : List ℕ) (c : Checked) (answer : c ≡ checkOf s) where
+  pub check-number : c .number ≡ numberOf s
+  unfolding checkOf accepted refused
+  check-number =
+      rw answer
+      (⊎-elim (λ e. rw e (sym (eqb-true (numberOf s) 0 e))) (λ e. rw e) (decided (eqb (numberOf s) 0)))
 
-pub checked-accepted : (s : List ℕ) → numberOf s ≡ 0 → checkOf s ≡ accepted s
-unfolding checkOf
-checked-accepted s e = rw (eq-eqb (numberOf s) 0 e)
+  module _ (passes : c .number ≡ 0) where
+    none : numberOf s ≡ 0
+    none = sym check-number ∙ passes
+
+    pub check-accepts : Accepted s
+    check-accepts = none-applies s none
+
+    accepts-as : c ≡ accepted s
+    unfolding checkOf
+    accepts-as = rw (answer, eq-eqb (numberOf s) 0 none)
+
+    pub check-header : c .header ≡ headerOf s
+    unfolding accepted
+    check-header = ap (λ (x : Checked). x .header) accepts-as
+
+    pub check-count : c .blocks .count ≡ standardCount s
+    unfolding accepted blocksSeen
+    check-count = ap (λ (x : Checked). x .blocks .count) accepts-as
+
+    pub check-last : c .blocks .last ≡ lastStandard s
+    unfolding accepted blocksSeen
+    check-last = ap (λ (x : Checked). x .blocks .last) accepts-as
+
+-- every number of these rows is below 14
+pub number-below : (s : List ℕ) → numberOf s < 14
+unfolding numberOf headerNumber
+number-below s =
+    let h : Header = headerOf s in
+    below (ltb (length s) headerSize) 5 _ (lit≤ tt)
+    (below (ltb most (length s)) 5 _ (lit≤ tt)
+    (else-below _ _
+    (below (not (queryOrRequest h)) 6 _ (lit≤ tt)
+    (below (not (rightLength h)) 7 _ (lit≤ tt)
+    (below (eqb (h .hops) 0) 8 _ (lit≤ tt)
+    (below (not (rightGroup h)) 9 _ (lit≤ tt)
+    (below (not (rightSource h)) 10 _ (lit≤ tt)
+    (below (namesNothing h) 11 _ (lit≤ tt)
+    (below (not (rightClient h)) 12 0 (lit≤ tt) (lit≤ tt))))))))
+    (below (not (rightForm s)) 13 0 (lit≤ tt) (lit≤ tt))))
 
 -- where the first block is of type 4 there is one of type 4
 first-counted : (blocks : List Block) → standardFirst blocks ≡ true → 0 < length (standardPlaces blocks)
@@ -121,24 +165,3 @@ module _ (s : List ℕ) (a : Accepted s) where
   -- so whatever leaves no room for a block has one: no accepted message meets row 19
   pub full-has-standard : most < length s + standardSize → 0 < standardCount s
   full-has-standard h = ⊎-elim (λ k. absurd (omega (arith, accepted-query k))) accepted-request accepted-kinds
-
-  -- a message sent on as a Request, with a block appended, is accepted again
-  pub sent-accepted : (block : List ℕ) → StandardBlock block → length s + standardSize ≤ most → Accepted (set (s ++ block) 0 request)
-  sent-accepted block b room =
-      let t : List ℕ = set (s ++ block) 0 request in
-      let long : length t ≡ length s + standardSize = rw (length-set (s ++ block) 0 request, length-append s block, b .long) in
-      let some : 0 < length (s ++ block) = rw (length-append s block) (omega (arith, b .long)) in
-      let fields : headerOf t ≡ retyped request (headerOf s) = typed-header (s ++ block) request some ∙ ap (retyped request) (append-header s block (a .low)) in
-      record {
-        low = rw long (omega (arith, a .low));
-        high = rw long room;
-        kind = rw fields;
-        header = rw fields (a .header);
-        hops = rw fields (a .hops);
-        group = rw fields (a .group);
-        source = rw fields (a .source);
-        pair = rw fields (a .pair);
-        client = rw fields (a .client);
-        port = rw fields (a .port);
-        form = typed-form (s ++ block) request some (λ e. omega arith) ∙ append-right-form s (a .form) block (a .low) b;
-      }

@@ -1,21 +1,21 @@
 -- Laws of appending a type 4 block to a message whose blocks fill it, be it a Query, a Request or a Reply: there is one block
 -- more, it is the last, and the blocks and the header before it stay.
-use Prim.Native.Nat.{ℕ, zero, suc, _+_, _-_, _^_, _≤_, _<_}
-use mathlib.Core.Path.{_≡_, refl, sym, ap, _∙_}
-use mathlib.Core.Bool.{Bool, true, false, cond, _&&_}
+use Prim.Native.Nat.{ℕ, _+_, _^_, _≤_, _<_}
+use mathlib.Core.Path.{_≡_, refl}
+use mathlib.Core.Bool.{true, false}
 use mathlib.Core.List.{List, [], _∷_, _++_}
 use mathlib.Core.Logic.{_⊎_, inl, inr, ⊎-elim}
 use native.Mathlib.Omega.{arith}
-use native.Mathlib.Nat.{add-zero, add-assoc}
+use native.Mathlib.Nat.{add-zero}
 use borrow.Author.Tests.{le-leb, eq-eqb, ne-eqb, eqb-true, eqb-false}
-use lib.Dec.{leb, eqb, lit≤}
-use lib.ListN.{length, getD, drop, length-append, length-drop, drop-of-length-le, List·getD-append}
+use lib.Dec.{eqb, lit≤}
+use lib.ListN.{length, drop, length-append, length-drop, List·getD-append}
 use lib.Seq.{drop-append-le}
 use Rattle.wire.specs.Numbers.{byteAt, be, be16}
 use Rattle.wire.proofs.Laws.{be-first}
-use Rattle.message.specs.Format.{headerSize, query, standard, standardSize, augmentedLeast}
+use Rattle.message.specs.Format.{headerSize, query, standard, standardSize}
 use Rattle.message.specs.Header.{headerOf}
-use Rattle.message.specs.Blocks.{Block, blockAt, begins, rightSize, fitsIn, blocksFrom, blocksOf, totalSize, standardPlaces, lastOr, standards, standardCount, standardAt, lastStandard, blocksEnd, standardFirst, fillsMessage, queryForm, requestForm, rightForm, StandardBlock}
+use Rattle.message.specs.Blocks.{Block, begins, rightSize, fitsIn, blocksFrom, blocksOf, totalSize, standardPlaces, lastOr, standards, standardCount, standardAt, lastStandard, blocksEnd, standardFirst, fillsMessage, requestForm, rightForm, StandardBlock}
 use Rattle.message.proofs.Cut.{decided, both, begun, too-short, no-blocks, block-first, by-blocks}
 use Rattle.message.proofs.Turns.{standard-more, standard-same}
 use Rattle.message.proofs.Rows.{header-alone}

@@ -6,4 +6,5 @@ pub mod Standards
 pub mod Append
 pub mod Write
 pub mod Accept
+pub mod Sent
 pub mod Determined

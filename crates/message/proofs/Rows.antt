@@ -1,11 +1,10 @@
 -- The ways out of `right_form` and of `check`, each from the tests and the calls that led to it.
-use Prim.Native.Nat.{ℕ, zero, suc, _+_, _≤_, _<_}
-use mathlib.Core.Path.{_≡_, refl, sym, ap, _∙_}
-use mathlib.Core.Bool.{Bool, true, false, not, cond, _&&_, and-false}
-use mathlib.Core.List.{List, [], _∷_}
+use Prim.Native.Nat.{ℕ, zero, _≤_, _<_}
+use mathlib.Core.Path.{_≡_, sym}
+use mathlib.Core.Bool.{Bool, true, false, not, _&&_, and-false}
+use mathlib.Core.List.{List, []}
 use mathlib.Core.Logic.{⊎-elim}
 use native.Mathlib.Omega.{arith}
-use native.Mathlib.Nat.{add-zero}
 use borrow.Author.Tests.{lt-ltb, le-ltb, eq-eqb, ne-eqb}
 use lib.Dec.{eqb}
 use lib.ListN.{length, drop, length-drop}
@@ -16,7 +15,7 @@ use Rattle.message.specs.declared.Blocks.{Blocks}
 use Rattle.message.specs.declared.Checked.{Checked}
 use Rattle.message.specs.Format.{headerSize, most, query, standard}
 use Rattle.message.specs.Header.{headerOf, headerNumber}
-use Rattle.message.specs.Blocks.{begins, blocksOf, blocksFrom, totalSize, blocksEnd, standardFirst, fillsMessage, queryForm, requestForm, rightForm}
+use Rattle.message.specs.Blocks.{begins, blocksOf, totalSize, blocksEnd, standardFirst, fillsMessage, rightForm}
 use Rattle.message.specs.Check.{numberOf, blocksSeen, refused, accepted, checkOf}
 use Rattle.message.proofs.Cut.{decided, too-short, no-blocks, block-first}
 

@@ -1,11 +1,10 @@
 -- Laws of a message's type 4 blocks: where they stand, that they fit in, and which is the last.
 use Prim.Native.Nat.{ℕ, zero, suc, _+_, _*_, _-_, _≤_, _<_}
-use mathlib.Core.Path.{_≡_, refl, sym, ap, _∙_}
-use mathlib.Core.Bool.{Bool, true, false, _&&_}
+use mathlib.Core.Path.{_≡_, refl, _∙_}
+use mathlib.Core.Bool.{true, false}
 use mathlib.Core.List.{List, [], _∷_}
 use mathlib.Core.Logic.{⊎-elim}
 use native.Mathlib.Omega.{arith}
-use native.Mathlib.Nat.{add-zero}
 use borrow.Author.Tests.{eqb-true}
 use lib.Dec.{eqb, lit≤}
 use lib.ListN.{length, getD, drop, length-drop}
@@ -14,7 +13,7 @@ use Rattle.wire.specs.Numbers.{byteAt, be16}
 use Rattle.wire.specs.Parts.{part}
 use Rattle.wire.proofs.Laws.{be-part}
 use Rattle.message.specs.Format.{headerSize, standard, standardSize}
-use Rattle.message.specs.Blocks.{Block, blockAt, begins, blocksFrom, blocksOf, totalSize, standardPlaces, lastOr, standards, standardCount, standardAt, lastStandard, blocksEnd, standardFirst, StandardBlock}
+use Rattle.message.specs.Blocks.{Block, blockAt, begins, blocksFrom, blocksOf, totalSize, standardPlaces, lastOr, standards, standardCount, standardAt, lastStandard, blocksEnd, StandardBlock}
 use Rattle.message.proofs.Cut.{decided, begun, no-blocks, block-first, by-blocks}
 use Rattle.message.proofs.Turns.{standard-more, standard-same}
 

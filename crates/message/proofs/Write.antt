@@ -1,21 +1,20 @@
 -- Laws of writing one byte into a message: the type byte, or a byte behind the type and the length of a type 4 block (its
 -- forwarding code is one). Either keeps the blocks, and all other fields of the header.
-use Prim.Native.Nat.{ℕ, zero, suc, _+_, _-_, _^_, _≤_, _<_}
-use mathlib.Core.Path.{_≡_, refl, sym, ap, _∙_}
-use mathlib.Core.Bool.{Bool, true, false, cond, _&&_}
-use mathlib.Core.List.{List, [], _∷_}
+use Prim.Native.Nat.{ℕ, _+_, _-_, _^_, _≤_, _<_}
+use mathlib.Core.Path.{_≡_, _∙_}
+use mathlib.Core.Bool.{true}
+use mathlib.Core.List.{List, _∷_}
 use native.Mathlib.Omega.{arith}
-use native.Mathlib.Nat.{add-zero, add-assoc}
 use borrow.Author.Tests.{ne-eqb}
-use lib.Dec.{eqb, lit≤}
-use lib.ListN.{length, getD, drop, set, length-set, length-drop}
+use lib.Dec.{lit≤}
+use lib.ListN.{length, drop, set, length-set}
 use lib.Seq.{getD-set-same, getD-set-other, drop-set-lt, drop-set-add}
 use Rattle.wire.specs.Numbers.{byteAt, be, be16}
 use Rattle.wire.proofs.Laws.{be-same}
 use Rattle.message.specs.declared.Header.{Header}
 use Rattle.message.specs.Format.{headerSize, query, standard, standardSize, codeOffset}
 use Rattle.message.specs.Header.{headerOf}
-use Rattle.message.specs.Blocks.{Block, blockAt, begins, fitsIn, blocksFrom, blocksOf, standardPlaces, standards, standardCount, standardAt, lastStandard, blocksEnd, standardFirst, fillsMessage, requestForm, rightForm}
+use Rattle.message.specs.Blocks.{blockAt, begins, blocksFrom, blocksOf, standards, standardCount, standardAt, lastStandard, blocksEnd, fillsMessage, requestForm, rightForm}
 use Rattle.message.proofs.Cut.{begun, block-first}
 use Rattle.message.proofs.Standards.{by-standard, last-is, last-low}
 

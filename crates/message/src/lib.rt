@@ -1,7 +1,7 @@
 // Messages as they arrive: the header read, the blocks walked once, and every rule checked.
 ghost use mathlib.Core.Path.{_≡_};
 ghost use mathlib.Core.Bool.{cond};
-ghost use Prim.Native.Nat.{_+_, _≤_, _<_};
+ghost use Prim.Native.Nat.{_≤_};
 ghost use lib.ListN.{length};
 ghost use Rattle.message.specs.Format.{headerSize};
 ghost use Rattle.message.specs.Header.{headerOf, headerNumber};

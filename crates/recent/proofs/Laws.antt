@@ -1,6 +1,6 @@
 -- Laws of the recent list for the crates above: a well-formed list stays so when a Query is entered, and the Query is then
 -- in it; the empty list is well-formed and holds nothing.
-use Prim.Native.Nat.{ℕ, zero, suc, _+_, _*_, _-_, _^_, _≤_, _<_}
+use Prim.Native.Nat.{ℕ, zero, suc, _+_, _*_, _^_, _≤_, _<_}
 use mathlib.Core.Path.{_≡_, refl, sym, ap, _∙_}
 use mathlib.Core.Bool.{Bool, true, false, _&&_, _||_, or-true}
 use mathlib.Core.List.{List, [], _∷_, _++_}
@@ -8,14 +8,14 @@ use mathlib.Core.Logic.{_⊎_, inl, inr, ⊎-elim}
 use native.Mathlib.Omega.{arith}
 use native.Mathlib.Nat.{add-zero, eq-or-lt-of-le}
 use borrow.Author.Tests.{le-leb, lt-ltb, eq-eqb, leb-true, ltb-true, eqb-true}
-use lib.Dec.{leb, ltb, eqb, lit≤}
-use lib.ListN.{length, getD, drop, replicate, length-append, drop-of-length-le}
-use lib.Seq.{drop-drop, drop-nil}
+use lib.Dec.{eqb, lit≤}
+use lib.ListN.{length, drop, length-append, drop-of-length-le}
+use lib.Seq.{drop-drop}
 use Rattle.wire.specs.Numbers.{byteAt, be, bytes32, bytes16}
 use Rattle.wire.specs.Parts.{splice}
 use Rattle.wire.proofs.Laws.{length-bytes, length-splice, byte-before, byte-after, be-after, be-within, be-first, be-second, be-bytes, drop-splice, splice-front}
-use Rattle.recent.specs.Layout.{headSize, entrySize, entryCount, listSize, used, next, entryPlace, allZero, wellFormed, Formed}
-use Rattle.recent.specs.Entries.{Entry, entryAt, firstEntries, isOf, someIsOf, seenIn, grown, movedOn, enteredIn, empty}
+use Rattle.recent.specs.Layout.{entrySize, entryCount, listSize, used, next, entryPlace, allZero, wellFormed, Formed}
+use Rattle.recent.specs.Entries.{entryAt, firstEntries, isOf, someIsOf, seenIn, grown, movedOn, enteredIn, empty}
 use Rattle.recent.proofs.Turns.{entry-fits}
 
 -- two tests that both hold
