@@ -1,6 +1,6 @@
 -- Laws of appending a type 4 block to a message whose blocks fill it, be it a Query, a Request or a Reply: there is one block
 -- more, it is the last, and the blocks and the header before it stay.
-use Prim.Native.Nat.{ℕ, _+_, _^_, _≤_, _<_}
+use Prim.Native.Nat.{ℕ, _+_, _≤_, _<_}
 use mathlib.Core.Path.{_≡_, refl}
 use mathlib.Core.Bool.{true, false}
 use mathlib.Core.List.{List, [], _∷_, _++_}
@@ -8,16 +8,17 @@ use mathlib.Core.Logic.{_⊎_, inl, inr, ⊎-elim}
 use native.Mathlib.Omega.{arith}
 use native.Mathlib.Nat.{add-zero}
 use borrow.Author.Tests.{le-leb, eq-eqb, ne-eqb, eqb-true, eqb-false}
-use lib.Dec.{eqb, lit≤}
+use lib.Dec.{eqb}
 use lib.ListN.{length, drop, length-append, length-drop, List·getD-append}
 use lib.Seq.{drop-append-le}
-use Rattle.wire.specs.Numbers.{byteAt, be, be16}
+use Rattle.wire.specs.Numbers.{byteAt, be16}
 use Rattle.wire.proofs.Laws.{be-first}
 use Rattle.message.specs.Format.{headerSize, query, standard, standardSize}
 use Rattle.message.specs.Header.{headerOf}
 use Rattle.message.specs.Blocks.{Block, begins, rightSize, fitsIn, blocksFrom, blocksOf, totalSize, standardPlaces, lastOr, standards, standardCount, standardAt, lastStandard, blocksEnd, standardFirst, fillsMessage, requestForm, rightForm, StandardBlock}
 use Rattle.message.proofs.Cut.{decided, both, begun, too-short, no-blocks, block-first, by-blocks}
 use Rattle.message.proofs.Turns.{standard-more, standard-same}
+use Rattle.message.proofs.Fields.{same-header}
 use Rattle.message.proofs.Rows.{header-alone}
 
 -- a block that begins still begins when bytes are appended
@@ -171,8 +172,4 @@ module _ (s : List ℕ) (form : rightForm s ≡ true) where
 
 -- the header stays whatever is appended
 pub append-header : (s more : List ℕ) → headerSize ≤ length s → headerOf (s ++ more) ≡ headerOf s
-unfolding headerOf
-append-header s more low =
-    let same : (d j : ℕ) → j + 2 ^ d ≤ headerSize → be d (s ++ more) j ≡ be d s j = λ d j h. be-first d s more j (omega arith) in
-    let byte : (j : ℕ) → j < headerSize → byteAt (s ++ more) j ≡ byteAt s j = λ j h. List·getD-append s more 0 j (omega arith) in
-    rw (byte 0 (lit≤ tt), same 1 1 (lit≤ tt), byte 3 (lit≤ tt), same 2 4 (lit≤ tt), same 2 8 (lit≤ tt), same 2 12 (lit≤ tt), same 1 16 (lit≤ tt), same 1 18 (lit≤ tt))
+append-header s more low = same-header s (s ++ more) (λ j h. List·getD-append s more 0 j (omega arith))

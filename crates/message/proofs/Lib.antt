@@ -3,6 +3,7 @@ pub mod Cut
 pub mod Turns
 pub mod Rows
 pub mod Standards
+pub mod Fields
 pub mod Append
 pub mod Write
 pub mod Accept

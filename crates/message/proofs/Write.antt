@@ -1,7 +1,7 @@
 -- Laws of writing one byte into a message: the type byte, or a byte behind the type and the length of a type 4 block (its
 -- forwarding code is one). Either keeps the blocks, and all other fields of the header.
 use Prim.Native.Nat.{ℕ, _+_, _-_, _^_, _≤_, _<_}
-use mathlib.Core.Path.{_≡_, _∙_}
+use mathlib.Core.Path.{_≡_, ap, _∙_}
 use mathlib.Core.Bool.{true}
 use mathlib.Core.List.{List, _∷_}
 use native.Mathlib.Omega.{arith}
@@ -11,10 +11,10 @@ use lib.ListN.{length, drop, set, length-set}
 use lib.Seq.{getD-set-same, getD-set-other, drop-set-lt, drop-set-add}
 use Rattle.wire.specs.Numbers.{byteAt, be, be16}
 use Rattle.wire.proofs.Laws.{be-same}
-use Rattle.message.specs.declared.Header.{Header}
 use Rattle.message.specs.Format.{headerSize, query, standard, standardSize, codeOffset}
 use Rattle.message.specs.Header.{headerOf}
 use Rattle.message.specs.Blocks.{blockAt, begins, blocksFrom, blocksOf, standards, standardCount, standardAt, lastStandard, blocksEnd, fillsMessage, requestForm, rightForm}
+use Rattle.message.proofs.Fields.{retyped, same-but-type, same-header}
 use Rattle.message.proofs.Cut.{begun, block-first}
 use Rattle.message.proofs.Standards.{by-standard, last-is, last-low}
 
@@ -32,11 +32,6 @@ module _ (s t : List ℕ) (blocks : blocksOf t ≡ blocksOf s) (long : length t 
   unfolding fillsMessage blocksEnd
   same-request-form = rw (blocks, long)
 
--- a header with another type
-abbrev pub retyped : ℕ → Header → Header
-retyped v h =
-    record { kind = v; length = h .length; hops = h .hops; group = h .group; source = h .source; client = h .client; id = h .id; port = h .port }
-
 -- the type byte
 module _ (s : List ℕ) (v : ℕ) where
   pub typed-blocks : blocksOf (set s 0 v) ≡ blocksOf s
@@ -52,19 +47,9 @@ module _ (s : List ℕ) (v : ℕ) where
   typed-form h k = rw (getD-set-same s 0 v 0 h, ne-eqb v query k) (same-request-form s (set s 0 v) typed-blocks (length-set s 0 v))
 
   pub typed-header : 0 < length s → headerOf (set s 0 v) ≡ retyped v (headerOf s)
-  unfolding headerOf
   typed-header h =
-      let same : (d j : ℕ) → 0 < j → be d (set s 0 v) j ≡ be d s j = λ d j l. be-untouched d s 0 v j (λ k m e. omega arith) in
-      rw (
-        getD-set-same s 0 v 0 h,
-        same 1 1 (lit≤ tt),
-        getD-set-other s 0 3 v 0 (λ e. omega arith),
-        same 2 4 (lit≤ tt),
-        same 2 8 (lit≤ tt),
-        same 2 12 (lit≤ tt),
-        same 1 16 (lit≤ tt),
-        same 1 18 (lit≤ tt),
-      )
+      same-but-type s (set s 0 v) (λ j l m. getD-set-other s 0 j v 0 (λ e. omega arith))
+      ∙ ap (λ (k : ℕ). retyped k (headerOf s)) (getD-set-same s 0 v 0 h)
 
 -- a byte behind the type and the length of the block that begins
 module _ (rest : List ℕ) (i v : ℕ) (behind : 3 ≤ i) where
@@ -118,12 +103,8 @@ module _ (j v : ℕ) (behind : 3 ≤ j) (within : j < standardSize) where
       rw (place, drop-set-add headerSize s (p - headerSize + j) v) (g .kept)
 
 -- a byte behind the header
-written-header : (s : List ℕ) (at v : ℕ) → headerSize ≤ at → headerOf (set s at v) ≡ headerOf s
-unfolding headerOf
-written-header s at v h =
-    let same : (d j : ℕ) → j + 2 ^ d ≤ headerSize → be d (set s at v) j ≡ be d s j = λ d j l. be-untouched d s at v j (λ k m e. omega arith) in
-    let byte : (j : ℕ) → j < headerSize → byteAt (set s at v) j ≡ byteAt s j = λ j l. getD-set-other s at j v 0 (λ e. omega arith) in
-    rw (byte 0 (lit≤ tt), same 1 1 (lit≤ tt), byte 3 (lit≤ tt), same 2 4 (lit≤ tt), same 2 8 (lit≤ tt), same 2 12 (lit≤ tt), same 1 16 (lit≤ tt), same 1 18 (lit≤ tt))
+pub written-header : (s : List ℕ) (at v : ℕ) → headerSize ≤ at → headerOf (set s at v) ≡ headerOf s
+written-header s at v h = same-header s (set s at v) (λ j l. getD-set-other s at j v 0 (λ e. omega arith))
 
 -- the forwarding code of the last type 4 block
 module _ (s : List ℕ) (v : ℕ) (some : 0 < standardCount s) where
