@@ -1,0 +1,175 @@
+-- Laws of appending a type 4 block to a message whose blocks fill it, be it a Query, a Request or a Reply: there is one block
+-- more, it is the last, and the blocks and the header before it stay.
+use Prim.Native.Nat.{ℕ, _+_, _≤_, _<_}
+use mathlib.Core.Path.{_≡_, refl}
+use mathlib.Core.Bool.{true, false}
+use mathlib.Core.List.{List, [], _∷_, _++_}
+use mathlib.Core.Logic.{_⊎_, inl, inr, ⊎-elim}
+use native.Mathlib.Omega.{arith}
+use native.Mathlib.Nat.{add-zero}
+use borrow.Author.Tests.{le-leb, eq-eqb, ne-eqb, eqb-true, eqb-false}
+use lib.Dec.{eqb}
+use lib.ListN.{length, drop, length-append, length-drop, List·getD-append}
+use lib.Seq.{drop-append-le}
+use Rattle.wire.specs.Numbers.{byteAt, be16}
+use Rattle.wire.proofs.Laws.{be-first}
+use Rattle.message.specs.Format.{headerSize, query, standard, standardSize}
+use Rattle.message.specs.Header.{headerOf}
+use Rattle.message.specs.Blocks.{Block, begins, rightSize, fitsIn, blocksFrom, blocksOf, totalSize, standardPlaces, lastOr, standards, standardCount, standardAt, lastStandard, blocksEnd, standardFirst, fillsMessage, requestForm, rightForm, StandardBlock}
+use Rattle.message.proofs.Cut.{decided, both, begun, too-short, no-blocks, block-first, by-blocks}
+use Rattle.message.proofs.Turns.{standard-more, standard-same}
+use Rattle.message.proofs.Fields.{same-header}
+use Rattle.message.proofs.Rows.{header-alone}
+
+-- a block that begins still begins when bytes are appended
+begins-still : (rest more : List ℕ) → begins rest ≡ true → begins (rest ++ more) ≡ true
+unfolding begins fitsIn
+begins-still rest more e =
+    let b = begun rest e in
+    let right : rightSize (byteAt rest 0) (be16 rest 1) ≡ true = both (rightSize (byteAt rest 0) (be16 rest 1)) _ e .0 in
+    let room : be16 rest 1 ≤ length rest + length more = omega (arith, b .inside) in
+    rw (
+      List·getD-append rest more 0 0 (omega (arith, b .least, b .inside)),
+      be-first 1 rest more 1 (omega (arith, b .least, b .inside)),
+      length-append rest more,
+      right,
+      le-leb _ _ room,
+    )
+
+-- a type 4 block begins
+standard-begins : (block : List ℕ) → StandardBlock block → begins block ≡ true
+unfolding begins fitsIn
+standard-begins block b = rw (b .kind, b .size, b .long)
+
+-- the block that appending makes
+abbrev pub newBlock : ℕ → Block
+newBlock at = record { at = at; kind = standard; size = standardSize }
+
+module _ (block : List ℕ) (b : StandardBlock block) where
+  alone : (at : ℕ) → blocksFrom at block ≡ newBlock at ∷ []
+  alone at =
+      let none : begins (drop standardSize block) ≡ false = too-short (drop standardSize block) (rw (length-drop standardSize block, b .long) (omega arith)) in
+      rw (block-first at block (standard-begins block b), b .kind, b .size, no-blocks (at + standardSize) (drop standardSize block) none)
+
+  abbrev Grows : ℕ → List ℕ → Type 0
+  Grows at rest = totalSize (blocksFrom at rest) ≡ length rest → blocksFrom at (rest ++ block) ≡ blocksFrom at rest ++ (newBlock (at + length rest) ∷ [])
+
+  grows-none : (at : ℕ) (rest : List ℕ) → begins rest ≡ false → Grows at rest
+  unfolding totalSize
+  grows-none at [] e = λ t. rw (no-blocks at [] e, add-zero) (alone at)
+  grows-none at (x ∷ rest) e = rw (no-blocks at (x ∷ rest) e) (λ t. absurd (omega arith))
+
+  grows-on : (at : ℕ) (rest : List ℕ) → begins rest ≡ true → Grows (at + be16 rest 1) (drop (be16 rest 1) rest) → Grows at rest
+  unfolding totalSize
+  grows-on at rest e h t =
+      let g = begun rest e in
+      let size : ℕ = be16 rest 1 in
+      let left : totalSize (blocksFrom (at + size) (drop size rest)) ≡ length (drop size rest) =
+      rw (length-drop size rest) (omega (arith, rw (block-first at rest e) at t)) in
+      let far : at + size + length (drop size rest) ≡ at + length rest = rw (length-drop size rest) (omega (arith, g .inside)) in
+      rw (
+        block-first at (rest ++ block) (begins-still rest block e),
+        List·getD-append rest block 0 0 (omega (arith, g .least, g .inside)),
+        be-first 1 rest block 1 (omega (arith, g .least, g .inside)),
+        drop-append-le size rest block (g .inside),
+        h left,
+        far,
+        block-first at rest e,
+      )
+
+  grows : (at : ℕ) (rest : List ℕ) → Grows at rest
+  grows = by-blocks Grows grows-none grows-on
+
+-- one block more, seen by each of the definitions over a list of blocks
+total-more : (blocks : List Block) (block : Block) → totalSize (blocks ++ (block ∷ [])) ≡ totalSize blocks + block .size
+unfolding totalSize
+total-more [] block = omega arith
+total-more (x ∷ blocks) block = rw (total-more blocks block) (omega arith)
+
+places-on : (x : Block) (blocks : List Block) (at : ℕ) → standardPlaces (blocks ++ (newBlock at ∷ [])) ≡ standardPlaces blocks ++ (at ∷ [])
+    → standardPlaces (x ∷ (blocks ++ (newBlock at ∷ []))) ≡ standardPlaces (x ∷ blocks) ++ (at ∷ [])
+places-on x blocks at h =
+    ⊎-elim
+    (λ e. rw (standard-more x (blocks ++ (newBlock at ∷ [])) e, standard-more x blocks e, h))
+    (λ e. rw (standard-same x (blocks ++ (newBlock at ∷ [])) e, standard-same x blocks e, h))
+    (decided (eqb (x .kind) standard))
+
+places-more : (blocks : List Block) (at : ℕ) → standardPlaces (blocks ++ (newBlock at ∷ [])) ≡ standardPlaces blocks ++ (at ∷ [])
+unfolding standardPlaces
+places-more [] at = refl
+places-more (x ∷ blocks) at = places-on x blocks at (places-more blocks at)
+
+last-more : (none : ℕ) (places : List ℕ) (at : ℕ) → lastOr none (places ++ (at ∷ [])) ≡ at
+unfolding lastOr
+last-more none [] at = refl
+last-more none (p ∷ places) at = last-more p places at
+
+first-still : (blocks others : List Block) → standardFirst blocks ≡ true → standardFirst (blocks ++ others) ≡ true
+unfolding standardFirst
+first-still [] others e = let z : _≡_ {A = ℕ} 0 1 = cc in absurd (omega arith)
+first-still (x ∷ blocks) others e = e
+
+filled : (s : List ℕ) → fillsMessage s ≡ true → headerSize + totalSize (blocksOf s) ≡ length s
+unfolding fillsMessage blocksEnd
+filled s e = eqb-true _ _ e
+
+-- of a message
+module _ (s block : List ℕ) (low : headerSize ≤ length s) (full : fillsMessage s ≡ true) (b : StandardBlock block) where
+  pub append-blocks : blocksOf (s ++ block) ≡ blocksOf s ++ (newBlock (length s) ∷ [])
+  unfolding blocksOf
+  append-blocks =
+      let rest : List ℕ = drop headerSize s in
+      let whole : totalSize (blocksFrom headerSize rest) ≡ length rest = rw (length-drop headerSize s) (omega (arith, filled s full)) in
+      let place : headerSize + length rest ≡ length s = rw (length-drop headerSize s) (omega arith) in
+      rw (drop-append-le headerSize s block low, grows block b headerSize rest whole, place)
+
+  pub append-fills : fillsMessage (s ++ block) ≡ true
+  unfolding fillsMessage blocksEnd
+  append-fills =
+      eq-eqb (headerSize + totalSize (blocksOf (s ++ block))) (length (s ++ block))
+      (rw (append-blocks, total-more (blocksOf s) (newBlock (length s)), length-append s block, b .long) (omega (arith, filled s full)))
+
+  -- the places of its type 4 blocks are the old ones and its old length
+  pub append-standards : standards (s ++ block) ≡ standards s ++ (length s ∷ [])
+  unfolding standards
+  append-standards = rw append-blocks (places-more (blocksOf s) (length s))
+
+  pub append-count : standardCount (s ++ block) ≡ standardCount s + 1
+  append-count = rw append-standards (length-append (standards s) (length s ∷ []))
+
+  pub append-last : lastStandard (s ++ block) ≡ length s
+  append-last = rw append-standards (last-more 0 (standards s) (length s))
+
+  pub append-standard-at : (k : ℕ) → k < standardCount s → standardAt (s ++ block) k ≡ standardAt s k
+  append-standard-at k h = rw append-standards (List·getD-append (standards s) (length s ∷ []) 0 k h)
+
+-- the two forms: a Query is a header alone, any other message has the form of a Request
+module _ (s : List ℕ) (form : rightForm s ≡ true) where
+  pub query-alone : byteAt s 0 ≡ query → length s ≡ headerSize
+  unfolding rightForm
+  query-alone k = eqb-true _ _ (rw (eq-eqb (byteAt s 0) query k) at form)
+
+  pub request-formed : (byteAt s 0 ≡ query → ⊥) → requestForm s ≡ true
+  unfolding rightForm
+  request-formed k = rw (ne-eqb (byteAt s 0) query k) at form
+
+  form-cases : (length s ≡ headerSize) ⊎ (requestForm s ≡ true)
+  form-cases =
+      ⊎-elim (λ e. inl (query-alone (eqb-true _ _ e))) (λ e. inr (request-formed (eqb-false _ _ e))) (decided (eqb (byteAt s 0) query))
+
+  -- in both the blocks fill the message
+  pub right-form-fills : fillsMessage s ≡ true
+  unfolding fillsMessage blocksEnd totalSize
+  right-form-fills =
+      ⊎-elim (λ e. rw (header-alone s e, e)) (λ e. both (fillsMessage s) _ e .0) form-cases
+
+  -- and with a block appended both have the form of a Request and of a Reply
+  pub append-right-form : (block : List ℕ) → headerSize ≤ length s → StandardBlock block → requestForm (s ++ block) ≡ true
+  unfolding standardFirst
+  append-right-form block low b =
+      rw (append-fills s block low right-form-fills b, append-blocks s block low right-form-fills b)
+      (⊎-elim (λ e. rw (header-alone s e)) (λ e. first-still (blocksOf s) _ (both (fillsMessage s) _ e .1)) form-cases)
+
+-- the header stays whatever is appended
+pub append-header : (s more : List ℕ) → headerSize ≤ length s → headerOf (s ++ more) ≡ headerOf s
+append-header s more low = same-header s (s ++ more) (λ j h. List·getD-append s more 0 j (omega arith))

@@ -1,0 +1,123 @@
+-- Laws of cutting a message into blocks: the list of blocks by its first, and induction over it.
+use Prim.Native.Nat.{ℕ, zero, suc, _+_, _-_, _≤_, _<_}
+use mathlib.Core.Path.{_≡_, refl, sym, ap, _∙_}
+use mathlib.Core.Bool.{Bool, true, false, _&&_, _||_}
+use mathlib.Core.List.{List, [], _∷_}
+use mathlib.Core.Logic.{_⊎_, inl, inr, ⊎-elim}
+use native.Mathlib.Omega.{arith}
+use borrow.Author.Tests.{leb-true, eqb-true}
+use lib.Dec.{leb, eqb}
+use lib.ListN.{length, drop, length-drop}
+use Rattle.wire.specs.Numbers.{byteAt, be16}
+use Rattle.message.specs.Format.{standard, augmented, standardSize, augmentedLeast}
+use Rattle.message.specs.Blocks.{Block, blockAt, begins, rightSize, fitsIn, blocksBy, blocksFrom}
+
+-- a test holds or fails
+pub decided : (b : Bool) → (b ≡ true) ⊎ (b ≡ false)
+decided true = inl refl
+decided false = inr refl
+
+pub both : (a b : Bool) → (a && b) ≡ true → (a ≡ true) × (b ≡ true)
+both true b e = (refl, e)
+both false b e = let z : _≡_ {A = ℕ} 0 1 = cc in absurd (omega arith)
+
+pub one-of : (a b : Bool) → (a || b) ≡ true → (a ≡ true) ⊎ (b ≡ true)
+one-of true b e = inl refl
+one-of false b e = inr e
+
+-- what is known of a block that begins
+pub record Begun (rest : List ℕ) : Type 0 where
+  pub least : augmentedLeast ≤ be16 rest 1
+  pub inside : be16 rest 1 ≤ length rest
+  pub standard-size : byteAt rest 0 ≡ standard → be16 rest 1 ≡ standardSize
+
+pub size-right : (kind size : ℕ) → rightSize kind size ≡ true → (augmentedLeast ≤ size) × (kind ≡ standard → size ≡ standardSize)
+size-right kind size e =
+    ⊎-elim
+    (λ h. let p = both (eqb kind standard) _ h in let q : size ≡ standardSize = eqb-true _ _ (p .1) in (omega arith, λ k. q))
+    (λ h.
+    let p = both (eqb kind augmented && leb augmentedLeast size) _ h in
+    let q = both (eqb kind augmented) _ (p .0) in
+    let k : kind ≡ augmented = eqb-true _ _ (q .0) in
+    (leb-true _ _ (q .1), λ l. absurd (omega arith)))
+    (one-of (eqb kind standard && eqb size standardSize) _ e)
+
+pub begun : (rest : List ℕ) → begins rest ≡ true → Begun rest
+unfolding begins fitsIn
+begun rest e =
+    let p = both (rightSize (byteAt rest 0) (be16 rest 1)) _ e in
+    let r = size-right (byteAt rest 0) (be16 rest 1) (p .0) in
+    record { least = r .0; inside = leb-true _ _ (p .1); standard-size = r .1 }
+
+-- where too little is left, no block begins
+pub too-short : (rest : List ℕ) → length rest < augmentedLeast → begins rest ≡ false
+too-short rest h =
+    ⊎-elim (λ e. absurd (omega (arith, begun rest e .least, begun rest e .inside))) (λ e. e) (decided (begins rest))
+
+-- the blocks by their first
+none-by : (n at : ℕ) (rest : List ℕ) → begins rest ≡ false → blocksBy n at rest ≡ []
+unfolding blocksBy
+none-by zero at rest e = refl
+none-by (suc n) at rest e = rw e
+
+more-by : (n at : ℕ) (rest : List ℕ) → begins rest ≡ true
+    → blocksBy (suc n) at rest ≡ blockAt at rest ∷ blocksBy n (at + be16 rest 1) (drop (be16 rest 1) rest)
+unfolding blocksBy
+more-by n at rest e = rw e
+
+-- as many turns as there are bytes are enough
+turns-enough : (n m at : ℕ) (rest : List ℕ) → length rest ≤ n → length rest ≤ m → blocksBy n at rest ≡ blocksBy m at rest
+turns-enough zero m at rest h k =
+    let e : begins rest ≡ false = too-short rest (omega arith) in none-by zero at rest e ∙ sym (none-by m at rest e)
+turns-enough (suc n) zero at rest h k =
+    let e : begins rest ≡ false = too-short rest (omega arith) in none-by (suc n) at rest e ∙ sym (none-by zero at rest e)
+turns-enough (suc n) (suc m) at rest h k =
+    ⊎-elim
+    (λ e.
+    let b = begun rest e in
+    let size : ℕ = be16 rest 1 in
+    let fewer : (t : ℕ) → length rest ≤ suc t → length (drop size rest) ≤ t =
+    λ t l. rw (length-drop size rest) (omega (arith, b .least)) in
+    more-by n at rest e
+    ∙ ap (λ (l : List Block). blockAt at rest ∷ l) (turns-enough n m (at + size) (drop size rest) (fewer n h) (fewer m k))
+    ∙ sym (more-by m at rest e))
+    (λ e. none-by (suc n) at rest e ∙ sym (none-by (suc m) at rest e))
+    (decided (begins rest))
+
+-- where no block begins there are none; else there is that one, and those behind it
+pub no-blocks : (at : ℕ) (rest : List ℕ) → begins rest ≡ false → blocksFrom at rest ≡ []
+unfolding blocksFrom
+no-blocks at rest e = none-by (length rest) at rest e
+
+pub block-first : (at : ℕ) (rest : List ℕ) → begins rest ≡ true
+    → blocksFrom at rest ≡ blockAt at rest ∷ blocksFrom (at + be16 rest 1) (drop (be16 rest 1) rest)
+unfolding blocksFrom
+block-first at rest e =
+    let b = begun rest e in
+    let size : ℕ = be16 rest 1 in
+    let n : ℕ = length rest - 1 in
+    let one : length rest ≡ suc n = omega (arith, b .least, b .inside) in
+    let left : length (drop size rest) ≤ n = rw (length-drop size rest) (omega (arith, b .least)) in
+    ap (λ (t : ℕ). blocksBy t at rest) one
+    ∙ more-by n at rest e
+    ∙ ap (λ (l : List Block). blockAt at rest ∷ l)
+    (turns-enough n (length (drop size rest)) (at + size) (drop size rest) left (omega arith))
+
+-- induction over the blocks: from what stands behind the first block to the whole
+module _
+    (P : ℕ → List ℕ → Type 0)
+    (ends : (at : ℕ) (rest : List ℕ) → begins rest ≡ false → P at rest)
+    (goes-on : (at : ℕ) (rest : List ℕ) → begins rest ≡ true → P (at + be16 rest 1) (drop (be16 rest 1) rest) → P at rest)
+  where
+    by-turns : (n at : ℕ) (rest : List ℕ) → length rest ≤ n → P at rest
+    by-turns zero at rest h = ends at rest (too-short rest (omega arith))
+    by-turns (suc n) at rest h =
+        ⊎-elim
+        (λ e.
+        let b = begun rest e in
+        goes-on at rest e (by-turns n (at + be16 rest 1) (drop (be16 rest 1) rest) (rw (length-drop (be16 rest 1) rest) (omega (arith, b .least)))))
+        (ends at rest)
+        (decided (begins rest))
+
+    pub by-blocks : (at : ℕ) (rest : List ℕ) → P at rest
+    by-blocks at rest = by-turns (length rest) at rest (omega arith)

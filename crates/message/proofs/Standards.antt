@@ -1,0 +1,174 @@
+-- Laws of a message's type 4 blocks: where they stand, that they fit in, and which is the last.
+use Prim.Native.Nat.{ℕ, zero, suc, _+_, _*_, _-_, _≤_, _<_}
+use mathlib.Core.Path.{_≡_, refl, _∙_}
+use mathlib.Core.Bool.{true, false}
+use mathlib.Core.List.{List, [], _∷_}
+use mathlib.Core.Logic.{⊎-elim}
+use native.Mathlib.Omega.{arith}
+use borrow.Author.Tests.{eqb-true}
+use lib.Dec.{eqb, lit≤}
+use lib.ListN.{length, getD, drop, length-drop}
+use lib.Seq.{length-take-le, getD-take, drop-drop}
+use Rattle.wire.specs.Numbers.{byteAt, be16}
+use Rattle.wire.specs.Parts.{part}
+use Rattle.wire.proofs.Laws.{be-part}
+use Rattle.message.specs.Format.{headerSize, standard, standardSize}
+use Rattle.message.specs.Blocks.{Block, blockAt, begins, blocksFrom, blocksOf, totalSize, standardPlaces, lastOr, standards, standardCount, standardAt, lastStandard, blocksEnd, StandardBlock}
+use Rattle.message.proofs.Cut.{decided, begun, no-blocks, block-first, by-blocks}
+use Rattle.message.proofs.Turns.{standard-more, standard-same}
+
+-- the type 4 blocks of what begins with no block, with one of type 4, with another
+pub no-places : (at : ℕ) (rest : List ℕ) → begins rest ≡ false → standardPlaces (blocksFrom at rest) ≡ []
+unfolding standardPlaces
+no-places at rest b = rw (no-blocks at rest b)
+
+module _ (at : ℕ) (rest : List ℕ) (b : begins rest ≡ true) where
+  abbrev behind : List Block
+  behind = blocksFrom (at + be16 rest 1) (drop (be16 rest 1) rest)
+
+  pub places-more : eqb (byteAt rest 0) standard ≡ true → standardPlaces (blocksFrom at rest) ≡ at ∷ standardPlaces behind
+  places-more k = rw (block-first at rest b) (standard-more (blockAt at rest) behind k)
+
+  pub places-same : eqb (byteAt rest 0) standard ≡ false → standardPlaces (blocksFrom at rest) ≡ standardPlaces behind
+  places-same k = rw (block-first at rest b) (standard-same (blockAt at rest) behind k)
+
+-- the rule of the type 4 blocks: what holds of one that stands in front, and goes on from behind a block to the whole,
+-- holds of every one
+module _
+    (Q : ℕ → List ℕ → ℕ → Type 0)
+    (in-front : (at : ℕ) (rest : List ℕ) → begins rest ≡ true → byteAt rest 0 ≡ standard → Q at rest at)
+    (goes-on : (at : ℕ) (rest : List ℕ) (p : ℕ) → begins rest ≡ true → Q (at + be16 rest 1) (drop (be16 rest 1) rest) p → Q at rest p)
+  where
+    Each : ℕ → List ℕ → List ℕ → Type 0
+    Each at rest places = (k : ℕ) → k < length places → Q at rest (getD places k 0)
+
+    each-more : (at : ℕ) (rest places : List ℕ) → Q at rest at → Each at rest places → Each at rest (at ∷ places)
+    unfolding Each
+    each-more at rest places q f zero h = q
+    each-more at rest places q f (suc k) h = f k (omega arith)
+
+    each-behind : (at : ℕ) (rest : List ℕ) → begins rest ≡ true
+        → Each (at + be16 rest 1) (drop (be16 rest 1) rest) (standardPlaces (blocksFrom (at + be16 rest 1) (drop (be16 rest 1) rest)))
+        → Each at rest (standardPlaces (blocksFrom at rest))
+    unfolding Each
+    each-behind at rest b f =
+        let places : List ℕ = standardPlaces (behind at rest b) in
+        let g : Each at rest places = λ k h. goes-on at rest (getD places k 0) b (f k h) in
+        ⊎-elim
+        (λ e. rw (places-more at rest b e) (each-more at rest places (in-front at rest b (eqb-true _ _ e)) g))
+        (λ e. rw (places-same at rest b e) g)
+        (decided (eqb (byteAt rest 0) standard))
+
+    pub by-standard : (at : ℕ) (rest : List ℕ) (k : ℕ) → k < length (standardPlaces (blocksFrom at rest))
+        → Q at rest (getD (standardPlaces (blocksFrom at rest)) k 0)
+    unfolding Each
+    by-standard =
+        by-blocks (λ at rest. Each at rest (standardPlaces (blocksFrom at rest)))
+        (λ at rest b. rw (no-places at rest b) (λ k h. absurd (omega arith)))
+        each-behind
+
+-- the blocks lie within the bytes that they were cut from, and those of type 4 take 52 bytes each
+pub sizes-inside : (at : ℕ) (rest : List ℕ) → totalSize (blocksFrom at rest) ≤ length rest
+unfolding totalSize
+sizes-inside =
+    by-blocks (λ at rest. totalSize (blocksFrom at rest) ≤ length rest)
+    (λ at rest b. rw (no-blocks at rest b) (omega arith))
+    (λ at rest b h. rw (block-first at rest b) (omega (arith, begun rest b .inside, length-drop (be16 rest 1) rest)))
+
+standards-inside : (at : ℕ) (rest : List ℕ) → standardSize * length (standardPlaces (blocksFrom at rest)) ≤ totalSize (blocksFrom at rest)
+unfolding totalSize
+standards-inside =
+    by-blocks (λ at rest. standardSize * length (standardPlaces (blocksFrom at rest)) ≤ totalSize (blocksFrom at rest))
+    (λ at rest b. rw (no-places at rest b, no-blocks at rest b) (omega arith))
+    (λ at rest b h.
+    ⊎-elim
+    (λ e. rw (places-more at rest b e, block-first at rest b) (omega (arith, begun rest b .standard-size (eqb-true _ _ e))))
+    (λ e. rw (places-same at rest b e, block-first at rest b) (omega arith))
+    (decided (eqb (byteAt rest 0) standard)))
+
+record Inside (at : ℕ) (rest : List ℕ) (p : ℕ) : Type 0 where
+  low : at ≤ p
+  high : p + standardSize ≤ at + length rest
+
+place-inside : (at : ℕ) (rest : List ℕ) (k : ℕ) → k < length (standardPlaces (blocksFrom at rest))
+    → Inside at rest (getD (standardPlaces (blocksFrom at rest)) k 0)
+place-inside =
+    by-standard Inside
+    (λ at rest b k.
+    let g = begun rest b in
+    record { low = omega arith; high = omega (arith, g .inside, g .standard-size k) })
+    (λ at rest p b i. record { low = omega (arith, i .low); high = omega (arith, i .low, i .high, begun rest b .inside, length-drop (be16 rest 1) rest) })
+
+-- each is a type 4 block
+record Whole (at : ℕ) (rest : List ℕ) (p : ℕ) : Type 0 where
+  low : at ≤ p
+  block : StandardBlock (part (p - at) standardSize rest)
+
+place-whole : (at : ℕ) (rest : List ℕ) (k : ℕ) → k < length (standardPlaces (blocksFrom at rest))
+    → Whole at rest (getD (standardPlaces (blocksFrom at rest)) k 0)
+place-whole =
+    by-standard Whole
+    (λ at rest b k.
+    let g = begun rest b in
+    let here : at - at ≡ 0 = omega arith in
+    record {
+      low = omega arith;
+      block =
+          rw here
+          (record {
+            long = length-take-le standardSize rest (omega (arith, g .inside, g .standard-size k));
+            kind = getD-take standardSize rest 0 0 (lit≤ tt) ∙ k;
+            size = be-part 1 rest 0 standardSize 1 (lit≤ tt) ∙ g .standard-size k;
+          });
+    })
+    (λ at rest p b w.
+    let there : p - at ≡ be16 rest 1 + (p - (at + be16 rest 1)) = omega (arith, w .low) in
+    record {
+      low = omega (arith, w .low);
+      block = rw (there, ← drop-drop (p - (at + be16 rest 1)) (be16 rest 1) rest) (w .block);
+    })
+
+-- the last of some places
+last-of : (none : ℕ) (places : List ℕ) → 0 < length places → lastOr none places ≡ getD places (length places - 1) 0
+unfolding lastOr
+last-of none [] h = absurd (omega arith)
+last-of none (p ∷ []) h = refl
+last-of none (p ∷ q ∷ places) h =
+    let e : suc (suc (length places)) - 1 ≡ suc (length places) = omega arith in
+    let f : suc (length places) - 1 ≡ length places = omega arith in
+    rw e (last-of p (q ∷ places) (omega arith) ∙ rw f)
+
+-- of a message
+module _ (s : List ℕ) where
+  pub blocks-inside : headerSize ≤ length s → blocksEnd s ≤ length s
+  unfolding blocksEnd blocksOf
+  blocks-inside low = omega (arith, sizes-inside headerSize (drop headerSize s), length-drop headerSize s)
+
+  pub standards-fit : headerSize ≤ length s → headerSize + standardSize * standardCount s ≤ length s
+  unfolding standards blocksOf
+  standards-fit low =
+      omega (arith, standards-inside headerSize (drop headerSize s), sizes-inside headerSize (drop headerSize s), length-drop headerSize s)
+
+  pub standard-low : (k : ℕ) → k < standardCount s → headerSize ≤ standardAt s k
+  unfolding standards blocksOf
+  standard-low k h = place-inside headerSize (drop headerSize s) k h .low
+
+  pub standard-high : headerSize ≤ length s → (k : ℕ) → k < standardCount s → standardAt s k + standardSize ≤ length s
+  unfolding standards blocksOf
+  standard-high low k h = omega (arith, place-inside headerSize (drop headerSize s) k h .high, length-drop headerSize s)
+
+  pub standard-block : (k : ℕ) → k < standardCount s → StandardBlock (part (standardAt s k) standardSize s)
+  unfolding standards blocksOf
+  standard-block k h =
+      let w = place-whole headerSize (drop headerSize s) k h in
+      let there : standardAt s k ≡ headerSize + (standardAt s k - headerSize) = omega (arith, w .low) in
+      rw (there, ← drop-drop (standardAt s k - headerSize) headerSize s) (w .block)
+
+  pub last-is : 0 < standardCount s → lastStandard s ≡ standardAt s (standardCount s - 1)
+  last-is h = last-of 0 (standards s) h
+
+  pub last-low : 0 < standardCount s → headerSize ≤ lastStandard s
+  last-low h = rw (last-is h) (standard-low (standardCount s - 1) (omega arith))
+
+  pub last-high : headerSize ≤ length s → 0 < standardCount s → lastStandard s + standardSize ≤ length s
+  last-high low h = rw (last-is h) (standard-high low (standardCount s - 1) (omega arith))

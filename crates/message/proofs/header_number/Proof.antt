@@ -1,0 +1,47 @@
+-- `header_number`: each row is handed what the rows after it give, and the nested rows are the chain of the definition.
+use Rattle.message.specs.Header.{headerNumber}
+use borrow.Author.Needs.{needs}
+use Rattle.message.proofs.header_number.Statement.{statement}
+use Rattle.message.proofs.header_number.Tie as tie
+
+returns : tie.Need-returns
+unfolding headerNumber
+returns c =
+    let hops = c .before .before .before .before in
+    let group = hops .before .before .before in
+    let source = group .before .before in
+    let pair = source .before .before in
+    let client = pair .before in
+    let start = client .before .before in
+    rw (
+      c .row7 .ensures,
+      c .before .before .before .row6 .ensures,
+      hops .row5 .ensures,
+      group .row4 .ensures,
+      group .before .multicast .ensures,
+      source .row3 .ensures,
+      source .before .unicast2 .ensures,
+      pair .row2 .ensures,
+      client .row .ensures,
+      start .unicast .ensures,
+      start .before .all-ones2 .ensures,
+      start .before .before .all-ones .ensures,
+    )
+
+pub header-number-spec : {M : Type 1} → statement M
+header-number-spec =
+    tie.close
+    (tie.spec
+    (λ c κs. search needs)
+    (λ c κs. search needs)
+    (λ c κs. search needs)
+    (λ c κs. search needs)
+    (λ c κs. search needs)
+    (λ c κs. search needs)
+    (λ c κs. search needs)
+    (λ c κs. search needs)
+    (λ c κs. search needs)
+    (λ c κs. search needs)
+    (λ c κs. search needs)
+    (λ c κs. search needs)
+    returns)

@@ -1,0 +1,12 @@
+-- `refused`: zeros but for the number.
+use mathlib.Core.Path.{refl}
+use Rattle.message.specs.Check.{refused}
+use Rattle.message.proofs.refused.Statement.{statement}
+use Rattle.message.proofs.refused.Tie as tie
+
+returns : tie.Need-returns
+unfolding refused
+returns c = refl
+
+pub refused-spec : {M : Type 1} → statement M
+refused-spec = tie.close (tie.spec returns)

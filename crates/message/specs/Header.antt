@@ -1,0 +1,60 @@
+-- The header of a message (document 01, "Messages"), and what the drop table asks of it (rows 6 to 12).
+use Prim.Native.Nat.{ℕ}
+use mathlib.Core.Bool.{Bool, not, cond, _&&_, _||_}
+use mathlib.Core.List.{List}
+use lib.Dec.{eqb}
+use Rattle.wire.specs.Numbers.{byteAt, be16, be32}
+use Rattle.wire.specs.Addresses.{unicast, multicast, allOnes}
+use Rattle.message.specs.declared.Header.{Header}
+use Rattle.message.specs.Format.{headerSize, query, request}
+
+-- the header that a list of bytes begins with: type, length, hops, multicast address, source address, client address,
+-- query id, client port
+unfoldable pub headerOf : List ℕ → Header
+headerOf s =
+    record {
+      kind = byteAt s 0;
+      length = be16 s 1;
+      hops = byteAt s 3;
+      group = be32 s 4;
+      source = be32 s 8;
+      client = be32 s 12;
+      id = be16 s 16;
+      port = be16 s 18;
+    }
+
+-- a Query or a Request, which are what a router takes
+abbrev pub queryOrRequest : Header → Bool
+queryOrRequest h = eqb (h .kind) query || eqb (h .kind) request
+
+-- the length that the header gives for itself
+abbrev pub rightLength : Header → Bool
+rightLength h = eqb (h .length) headerSize
+
+-- a multicast group, or all ones for no group
+abbrev pub rightGroup : Header → Bool
+rightGroup h = multicast (h .group) || allOnes (h .group)
+
+-- a unicast source, or all ones for no source
+abbrev pub rightSource : Header → Bool
+rightSource h = unicast (h .source) || allOnes (h .source)
+
+-- neither a group nor a source
+abbrev pub namesNothing : Header → Bool
+namesNothing h = allOnes (h .group) && allOnes (h .source)
+
+-- a client to which a Reply can go: unicast, with a port
+abbrev pub rightClient : Header → Bool
+rightClient h = unicast (h .client) && not (eqb (h .port) 0)
+
+-- rows 6 TYPE to 12 CLIENT of the drop table: the first that applies, 0 if none does
+unfoldable pub headerNumber : Header → ℕ
+headerNumber h =
+    cond (not (queryOrRequest h)) 6
+    (cond (not (rightLength h)) 7
+    (cond (eqb (h .hops) 0) 8
+    (cond (not (rightGroup h)) 9
+    (cond (not (rightSource h)) 10
+    (cond (namesNothing h) 11
+    (cond (not (rightClient h)) 12
+    0))))))

@@ -1,0 +1,204 @@
+// Messages as they arrive: the header read, the blocks walked once, and every rule checked.
+ghost use mathlib.Core.Path.{_≡_};
+ghost use mathlib.Core.Bool.{cond};
+ghost use Prim.Native.Nat.{_≤_};
+ghost use lib.ListN.{length};
+ghost use Rattle.message.specs.Format.{headerSize};
+ghost use Rattle.message.specs.Header.{headerOf, headerNumber};
+ghost use Rattle.message.specs.Blocks.{fitsIn, rightForm, blocksEnd};
+ghost use Rattle.message.specs.Check.{blocksSeen, refused, checkOf};
+
+const HEADER_SIZE: usize = 20;
+
+const HEADER_LENGTH: u16 = 20;
+
+const MOST: usize = 1472;
+
+const QUERY: u8 = 1;
+
+const REQUEST: u8 = 2;
+
+const STANDARD: u8 = 4;
+
+const AUGMENTED: u8 = 5;
+
+const STANDARD_SIZE: usize = 52;
+
+const AUGMENTED_LEAST: usize = 8;
+
+const AUGMENTED_UNIT: usize = 4;
+
+// The header of a message. `kind` is its type, `group` the multicast address.
+pub struct Header {
+    pub kind: u8,
+    pub length: u16,
+    pub hops: u8,
+    pub group: u32,
+    pub source: u32,
+    pub client: u32,
+    pub id: u16,
+    pub port: u16,
+}
+
+// What one walk over the blocks finds: where they end, how many are of type 4, and the place of the last of those.
+pub struct Blocks {
+    pub end: usize,
+    pub count: usize,
+    pub last: usize,
+}
+
+// What the check answers: the drop number or 0, and for an accepted message its header and its blocks.
+pub struct Checked {
+    pub number: u32,
+    pub header: Header,
+    pub blocks: Blocks,
+}
+
+// The header of a message.
+pub fn header_of(s: &[u8]) -> Header
+    requires { ⌜ headerSize ≤ length (now s) ⌝ }
+    ensures { λ r. ⌜ r ≡ headerOf (now (s .entry)) ⌝ }
+{
+    Header {
+        kind: s[0],
+        length: wire::be16(s, 1),
+        hops: s[3],
+        group: wire::be32(s, 4),
+        source: wire::be32(s, 8),
+        client: wire::be32(s, 12),
+        id: wire::be16(s, 16),
+        port: wire::be16(s, 18),
+    }
+}
+
+// A row of the drop table: its number where it applies, else what the rows after it give.
+fn row(applies: bool, number: u32, after: u32) -> u32
+    ensures { λ r. ⌜ r ≡ cond applies number after ⌝ }
+{
+    if applies { number } else { after }
+}
+
+// The first of rows 6 to 12 that applies to a header, or 0. The last row comes first here: each is handed what follows it.
+fn header_number(h: Header) -> u32
+    ensures { λ r. ⌜ r ≡ headerNumber h ⌝ }
+{
+    let no_group = wire::all_ones(h.group);
+    let no_source = wire::all_ones(h.source);
+    let client = row(!(wire::unicast(h.client) & (h.port != 0)), 12, 0);
+    let pair = row(no_group & no_source, 11, client);
+    let source = row(!(wire::unicast(h.source) | no_source), 10, pair);
+    let group = row(!(wire::multicast(h.group) | no_group), 9, source);
+    let length = row(h.length != HEADER_LENGTH, 7, row(h.hops == 0, 8, group));
+    row(!((h.kind == QUERY) | (h.kind == REQUEST)), 6, length)
+}
+
+// Whether a block of that type and length fits in the bytes that are left.
+fn fits_in(kind: u8, size: usize, left: usize) -> bool
+    ensures { λ r. ⌜ r ≡ fitsIn kind size left ⌝ }
+{
+    (((kind == STANDARD) & (size == STANDARD_SIZE))
+        | ((kind == AUGMENTED) & (AUGMENTED_LEAST <= size) & (size % AUGMENTED_UNIT == 0)))
+        & (size <= left)
+}
+
+// One of two numbers.
+fn either(first: bool, a: usize, b: usize) -> usize
+    ensures { λ r. ⌜ r ≡ cond first a b ⌝ }
+{
+    if first { a } else { b }
+}
+
+// One walk over the blocks of a message, from each to the next by its length, up to the end or to what is no block.
+pub fn blocks_of(s: &[u8]) -> Blocks
+    requires { ⌜ headerSize ≤ length (now s) ⌝ }
+    ensures { λ r. ⌜ r ≡ blocksSeen (now (s .entry)) ⌝ }
+{
+    let mut at: usize = HEADER_SIZE;
+    let mut count: usize = 0;
+    let mut last: usize = 0;
+    while 3 <= s.len() - at {
+        let kind = s[at];
+        let size = wire::be16(s, at + 1) as usize;
+        if !fits_in(kind, size, s.len() - at) {
+            return Blocks {
+                end: at,
+                count,
+                last,
+            };
+        }
+        count = either(kind == STANDARD, count + 1, count);
+        last = either(kind == STANDARD, at, last);
+        at += size;
+    }
+    Blocks {
+        end: at,
+        count,
+        last,
+    }
+}
+
+// Whether what follows the header keeps the rules of the message's type; `end` is where the blocks end.
+fn right_form(s: &[u8], end: usize) -> bool
+    requires { ⌜ (headerSize ≤ length (now s)) × (end ≡ blocksEnd (now s)) ⌝ }
+    ensures { λ r. ⌜ r ≡ rightForm (now (s .entry)) ⌝ }
+{
+    if s[0] == QUERY {
+        return s.len() == HEADER_SIZE;
+    }
+    if s.len() == HEADER_SIZE {
+        return false;
+    }
+    (end == s.len()) & (s[HEADER_SIZE] == STANDARD)
+}
+
+// The answer for a message that is refused.
+fn refused(number: u32) -> Checked
+    ensures { λ r. ⌜ r ≡ refused number ⌝ }
+{
+    let header = Header {
+        kind: 0,
+        length: 0,
+        hops: 0,
+        group: 0,
+        source: 0,
+        client: 0,
+        id: 0,
+        port: 0,
+    };
+    let blocks = Blocks {
+        end: 0,
+        count: 0,
+        last: 0,
+    };
+    Checked {
+        number,
+        header,
+        blocks,
+    }
+}
+
+// The first of rows 5 to 13 that applies to a message, or 0 with its header and its blocks.
+pub fn check(s: &[u8]) -> Checked
+    ensures { λ r. ⌜ r ≡ checkOf (now (s .entry)) ⌝ }
+{
+    if s.len() < HEADER_SIZE {
+        return refused(5);
+    }
+    if MOST < s.len() {
+        return refused(5);
+    }
+    let header = header_of(s);
+    let number = header_number(header);
+    if number != 0 {
+        return refused(number);
+    }
+    let blocks = blocks_of(s);
+    if !right_form(s, blocks.end) {
+        return refused(13);
+    }
+    Checked {
+        number: 0,
+        header,
+        blocks,
+    }
+}

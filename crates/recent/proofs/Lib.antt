@@ -1,0 +1,4 @@
+-- Laws that this crate's proofs and the crates above cite.
+pub mod Turns
+pub mod Laws
+pub mod Determined

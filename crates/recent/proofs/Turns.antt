@@ -1,0 +1,64 @@
+-- What each turn of the loops of `zero_from` and `seen` shows, and the stores of `enter` put together.
+use Prim.Native.Nat.{ℕ, zero, suc, _+_, _-_, _≤_, _<_}
+use mathlib.Core.Path.{_≡_, sym, _∙_}
+use mathlib.Core.Bool.{Bool, true, false, _||_}
+use mathlib.Core.List.{List, [], _∷_, _++_}
+use native.Mathlib.Omega.{arith}
+use native.Mathlib.Numerals.{add-one}
+use borrow.Author.Tests.{ne-eqb, eq-eqb}
+use lib.ListN.{length, drop, set, length-append, drop-of-length-le}
+use lib.Seq.{drop-cons, sets-eq}
+use Rattle.wire.specs.Numbers.{byteAt, bytes32, bytes16}
+use Rattle.recent.specs.Layout.{allZero, used, next, entryPlace, Formed}
+use Rattle.recent.specs.Entries.{entryAt, firstEntries, isOf, someIsOf, seenIn, grown, movedOn, enteredIn}
+use Rattle.wire.specs.Parts.{splice}
+use Rattle.wire.proofs.Laws.{length-bytes, length-splice, splice-join, splice-front}
+
+-- a byte and the bytes after it
+module _ (s : List ℕ) (at i : ℕ) (so-far : allZero (drop at s) ≡ allZero (drop i s)) (here : i < length s) where
+  pub zero-on : byteAt s i ≡ 0 → allZero (drop at s) ≡ allZero (drop (i + 1) s)
+  unfolding allZero
+  zero-on e = rw (so-far, drop-cons s i 0, add-one, eq-eqb _ _ e)
+
+  pub zero-broken : (byteAt s i ≡ 0 → ⊥) → false ≡ allZero (drop at s)
+  unfolding allZero
+  zero-broken n = rw (so-far, drop-cons s i 0, ne-eqb _ _ n)
+
+pub zero-ended : (s : List ℕ) (at i : ℕ) → allZero (drop at s) ≡ allZero (drop i s) → length s ≤ i → true ≡ allZero (drop at s)
+unfolding allZero
+zero-ended s at i e h = rw (e, drop-of-length-le s {i = i} h)
+
+-- the first k entries are the last of them and those before it
+one-more : (s : List ℕ) (client id k : ℕ) → 0 < k
+    → someIsOf (firstEntries s k) client id ≡ (isOf (entryAt s (k - 1)) client id || someIsOf (firstEntries s (k - 1)) client id)
+unfolding firstEntries someIsOf
+one-more s client id zero h = absurd (omega arith)
+one-more s client id (suc k) h = let e : suc k - 1 ≡ k = omega arith in rw e
+
+-- the entries in use are looked at from the last to the first: what is left of the answer is that of the first k
+module _ (s : List ℕ) (client id k : ℕ) (so-far : seenIn s client id ≡ someIsOf (firstEntries s k) client id) where
+  pub seen-found : (b : Bool) → 0 < k → b ≡ isOf (entryAt s (k - 1)) client id → b ≡ true → true ≡ seenIn s client id
+  seen-found b h e t = rw (so-far, one-more s client id k h, ← e, t)
+
+  pub seen-on : (b : Bool) → 0 < k → b ≡ isOf (entryAt s (k - 1)) client id → b ≡ false
+      → seenIn s client id ≡ someIsOf (firstEntries s (k - 1)) client id
+  seen-on b h e f = rw (so-far, one-more s client id k h, ← e, f)
+
+  pub seen-none : k ≤ 0 → false ≡ seenIn s client id
+  unfolding firstEntries someIsOf
+  seen-none h = let e : k ≡ 0 = omega arith in rw (so-far, e)
+
+-- the stores of `enter`, in its order
+module _ (s : List ℕ) (f : Formed s) (client id : ℕ) where
+  pub entry-fits : entryPlace (next s) + length (bytes32 client ++ bytes16 id) ≤ length s
+  entry-fits = simp length-append (omega (arith, f .whole, f .within, length-bytes 2 client, length-bytes 1 id))
+
+  pub entered-by : (a b : List ℕ) (at u n : ℕ) → at ≡ entryPlace (next s) → a ≡ splice s at (bytes32 client)
+      → b ≡ splice a (at + 4) (bytes16 id) → u ≡ grown (used s) → n ≡ movedOn (next s) → set (set b 0 u) 1 n ≡ enteredIn s client id
+  unfolding enteredIn
+  entered-by a b at u n e p q eu en =
+      let fits : at + length (bytes32 client) ≤ length s = omega (arith, f .whole, f .within, length-bytes 2 client) in
+      let joined : b ≡ splice s at (bytes32 client ++ bytes16 id) =
+      rw (q, p, ← length-bytes 2 client) (splice-join s at (bytes32 client) fits (bytes16 id)) in
+      let long : 2 ≤ length b = rw (joined, e, length-splice s (entryPlace (next s)) (bytes32 client ++ bytes16 id) entry-fits, f .whole) (omega arith) in
+      sets-eq (u ∷ n ∷ []) b 0 long ∙ rw (eu, en, joined, e) (sym (splice-front _ (grown (used s) ∷ movedOn (next s) ∷ [])))

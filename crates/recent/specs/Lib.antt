@@ -1,0 +1,3 @@
+-- The recent list: its layout and rules, and what is in it.
+pub mod Layout
+pub mod Entries

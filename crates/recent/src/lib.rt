@@ -1,0 +1,111 @@
+// The recent list: which Queries were accepted, by client and id, in 196 lent bytes.
+ghost use mathlib.Core.Path.{_≡_};
+ghost use Prim.Native.Nat.{_+_, _*_, _<_, _≤_};
+ghost use lib.ListN.{length, drop};
+ghost use Rattle.recent.specs.Layout.{allZero, wellFormed, Formed, entryPlace, entrySize, entryCount};
+ghost use Rattle.recent.specs.Entries.{entryAt, isOf, seenIn, grown, movedOn, enteredIn};
+
+const LIST_SIZE: usize = 196;
+
+const HEAD_SIZE: usize = 4;
+
+const ENTRY_SIZE: usize = 6;
+
+const CLIENT_SIZE: usize = 4;
+
+const ENTRY_COUNT: u8 = 32;
+
+// Where entry k begins.
+fn entry_place(k: u8) -> usize
+    ensures { λ r. ⌜ (r ≡ entryPlace k) × (k < 256) ⌝ }
+{
+    HEAD_SIZE + ENTRY_SIZE * (k as usize)
+}
+
+// Whether every byte from `at` on is zero.
+fn zero_from(list: &[u8], at: usize) -> bool
+    ensures { λ r. ⌜ r ≡ allZero (drop at (now (list .entry))) ⌝ }
+{
+    let mut i = at;
+    while i < list.len() {
+        if list[i] != 0 {
+            return false;
+        }
+        i += 1;
+    }
+    true
+}
+
+// Whether a list is well-formed.
+pub fn check(list: &[u8]) -> bool
+    ensures { λ r. ⌜ r ≡ wellFormed (now (list .entry)) ⌝ }
+{
+    if list.len() != LIST_SIZE {
+        return false;
+    }
+    let used = list[0];
+    let next = list[1];
+    (used <= ENTRY_COUNT)
+        & (next < ENTRY_COUNT)
+        & ((used == ENTRY_COUNT) | (next == used))
+        & (list[2] == 0)
+        & (list[3] == 0)
+        & zero_from(list, entry_place(used))
+}
+
+// Whether entry k is of this client and this id.
+fn is_of(list: &[u8], k: u8, client: u32, id: u16) -> bool
+    requires { ⌜ entryPlace k + entrySize ≤ length (now list) ⌝ }
+    ensures { λ r. ⌜ r ≡ isOf (entryAt (now (list .entry)) k) client id ⌝ }
+{
+    let at = entry_place(k);
+    (wire::be32(list, at) == client) & (wire::be16(list, at + CLIENT_SIZE) == id)
+}
+
+// Whether client and id are in a well-formed list.
+pub fn seen(list: &[u8], client: u32, id: u16) -> bool
+    requires { ⌜ Formed (now list) ⌝ }
+    ensures { λ r. ⌜ r ≡ seenIn (now (list .entry)) client id ⌝ }
+{
+    let mut k = list[0];
+    while 0 < k {
+        k -= 1;
+        if is_of(list, k, client, id) {
+            return true;
+        }
+    }
+    false
+}
+
+// How many entries are in use after one more is written.
+fn grown(used: u8) -> u8
+    ensures { λ r. ⌜ r ≡ grown used ⌝ }
+{
+    if used < ENTRY_COUNT {
+        used + 1
+    } else {
+        ENTRY_COUNT
+    }
+}
+
+// The entry that is written after entry k.
+fn moved_on(k: u8) -> u8
+    requires { ⌜ k < entryCount ⌝ }
+    ensures { λ r. ⌜ r ≡ movedOn k ⌝ }
+{
+    (k + 1) % ENTRY_COUNT
+}
+
+// Writes client and id into a well-formed list.
+pub fn enter(list: &mut [u8], client: u32, id: u16)
+    requires { ⌜ Formed (now list) ⌝ }
+    ensures { λ _. ⌜ now (list .exit) ≡ enteredIn (now (list .entry)) client id ⌝ }
+{
+    let used = list[0];
+    let next = list[1];
+    let at = entry_place(next);
+    wire::put32(list, at, client);
+    wire::put16(list, at + CLIENT_SIZE, id);
+    list[0] = grown(used);
+    list[1] = moved_on(next);
+}
