@@ -1,3 +1,4 @@
 -- Laws that this crate's proofs and the crates above cite.
 pub mod Masks
+pub mod Kept
 pub mod Determined

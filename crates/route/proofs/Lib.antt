@@ -1,2 +1,5 @@
 -- Laws that this crate's proofs and the crates above cite.
 pub mod Ranks
+pub mod Turns
+pub mod Laws
+pub mod Determined

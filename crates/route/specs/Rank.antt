@@ -2,9 +2,11 @@
 -- one. Ranks are 1 to 33 for kind 3, 34 for kind 2, 36 to 67 for kind 1, by length; 0 serves not at all.
 use Prim.Native.Nat.{ℕ, zero, suc, _+_}
 use mathlib.Core.Bool.{Bool, true, false, not, _&&_, _||_, cond}
+use mathlib.Core.List.{List}
 use lib.Dec.{ltb}
 use Rattle.wire.specs.Addresses.{allOnes}
 use Rattle.entry.specs.declared.route.Route.{Route}
+use Rattle.sheet.specs.Tables.{routeOf}
 use Rattle.route.specs.declared.Best.{Best}
 use Rattle.route.specs.Choice.{servesBoth, servesGroup, servesSource}
 
@@ -25,6 +27,10 @@ asSource source r = not (allOnes source) && servesSource source r
 
 abbrev pub rankOf : ℕ → ℕ → Route → ℕ
 rankOf source group = rankBy (asBoth source group) (asGroup source group) (asSource source)
+
+-- the ranks of a sheet's routes
+unfoldable pub ranksIn : List ℕ → ℕ → ℕ → ℕ → ℕ
+ranksIn sheet source group k = rankOf source group (routeOf sheet k)
 
 -- a rank, and the place of the route that has it
 abbrev pub best : ℕ → ℕ → Best

@@ -1,4 +1,5 @@
 -- Laws that this crate's proofs and the crates above cite.
 pub mod First
+pub mod Flags
 pub mod Laws
 pub mod Determined
