@@ -48,7 +48,7 @@ positive : (n : ℕ) → (n ≡ 0 → ⊥) → 0 < n
 positive zero h = absurd (h refl)
 positive (suc n) h = omega arith
 
--- a message to which no row applies
+-- a message to which no row applies is so
 pub none-applies : (s : List ℕ) → numberOf s ≡ 0 → Accepted s
 unfolding numberOf firstRow
 none-applies s e =
@@ -78,6 +78,7 @@ none-applies s e =
       form = not-false (rightForm s) (p13 .0);
     }
 
+-- and to one that is so none applies
 pub applies-none : (s : List ℕ) → Accepted s → numberOf s ≡ 0
 unfolding numberOf firstRow
 applies-none s a =

@@ -38,10 +38,11 @@ numberOf s = firstRow (length s) (headerOf s) (rightForm s)
 unfoldable pub blocksSeen : List ℕ → Blocks
 blocksSeen s = record { end = blocksEnd s; count = standardCount s; last = lastStandard s }
 
--- a header of zeros, and the blocks of no message
+-- a header of zeros
 abbrev pub noHeader : Header
 noHeader = record { kind = 0; length = 0; hops = 0; group = 0; source = 0; client = 0; id = 0; port = 0 }
 
+-- blocks of which nothing was seen
 abbrev pub noBlocks : Blocks
 noBlocks = record { end = 0; count = 0; last = 0 }
 
