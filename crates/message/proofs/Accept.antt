@@ -2,7 +2,7 @@
 -- and that a Request has a type 4 block.
 use Prim.Native.Nat.{ℕ, zero, suc, _+_, _≤_, _<_}
 use mathlib.Core.Path.{_≡_, refl, sym, ap, _∙_}
-use mathlib.Core.Bool.{Bool, true, false, not, cond}
+use mathlib.Core.Bool.{Bool, true, false, not, cond, _||_}
 use mathlib.Core.List.{List, [], _∷_}
 use mathlib.Core.Logic.{_⊎_, inl, inr, ⊎-elim}
 use native.Mathlib.Omega.{arith}
@@ -14,9 +14,9 @@ use Rattle.wire.proofs.First.{passed}
 use Rattle.message.specs.declared.Header.{Header}
 use Rattle.message.specs.declared.Checked.{Checked}
 use Rattle.message.specs.Format.{headerSize, most, query, request, standardSize}
-use Rattle.message.specs.Header.{headerOf, queryOrRequest, rightLength, rightGroup, rightSource, namesNothing, rightClient, headerNumber}
+use Rattle.message.specs.Header.{headerOf, queryOrRequest, rightLength, rightGroup, rightSource, namesNothing, rightClient}
 use Rattle.message.specs.Blocks.{Block, blocksOf, standardPlaces, standards, standardCount, lastStandard, fillsMessage, standardFirst, requestForm, rightForm}
-use Rattle.message.specs.Check.{orElse, numberOf, blocksSeen, refused, accepted, checkOf}
+use Rattle.message.specs.Check.{wrongSize, firstRow, numberOf, blocksSeen, refused, accepted, checkOf}
 use Rattle.message.proofs.Cut.{decided, both, one-of}
 use Rattle.message.proofs.Turns.{standard-more}
 use Rattle.message.proofs.Append.{query-alone, request-formed}
@@ -25,9 +25,6 @@ use Rattle.message.proofs.Append.{query-alone, request-formed}
 below : (t : Bool) (k rest : ℕ) → k < 14 → rest < 14 → cond t k rest < 14
 below true k rest h l = h
 below false k rest h l = l
-
-else-below : (n after : ℕ) → n < 14 → after < 14 → orElse n after < 14
-else-below n after = λ h l. below (eqb n 0) after n l h
 
 -- what the rows ask of a message
 pub record Accepted (s : List ℕ) : Type 0 where
@@ -43,35 +40,33 @@ pub record Accepted (s : List ℕ) : Type 0 where
   pub port : 0 < headerOf s .port
   pub form : rightForm s ≡ true
 
--- no number, and nothing after it either
-none-else : (n after : ℕ) → orElse n after ≡ 0 → (n ≡ 0) × (after ≡ 0)
-none-else zero after e = (refl, e)
-none-else (suc n) after e = let z : suc n ≡ 0 = rw (ne-eqb (suc n) 0 (λ q. omega arith)) at e in absurd (omega arith)
+neither : (a b : Bool) → (a || b) ≡ false → (a ≡ false) × (b ≡ false)
+neither true b e = let z : _≡_ {A = ℕ} 0 1 = cc in absurd (omega arith)
+neither false b e = (refl, e)
 
 positive : (n : ℕ) → (n ≡ 0 → ⊥) → 0 < n
 positive zero h = absurd (h refl)
 positive (suc n) h = omega arith
 
--- a message to which no row applies
+-- a message to which no row applies is so
 pub none-applies : (s : List ℕ) → numberOf s ≡ 0 → Accepted s
-unfolding numberOf headerNumber
+unfolding numberOf firstRow
 none-applies s e =
     let h : Header = headerOf s in
-    let p5 = passed (ltb (length s) headerSize) 4 _ e in
-    let q5 = passed (ltb most (length s)) 4 _ (p5 .1) in
-    let p6to12 = none-else _ _ (q5 .1) in
-    let p6 = passed (not (queryOrRequest h)) 5 _ (p6to12 .0) in
+    let p5 = passed (wrongSize (length s)) 4 _ e in
+    let p6 = passed (not (queryOrRequest h)) 5 _ (p5 .1) in
     let p7 = passed (not (rightLength h)) 6 _ (p6 .1) in
     let p8 = passed (eqb (h .hops) 0) 7 _ (p7 .1) in
     let p9 = passed (not (rightGroup h)) 8 _ (p8 .1) in
     let p10 = passed (not (rightSource h)) 9 _ (p9 .1) in
     let p11 = passed (namesNothing h) 10 _ (p10 .1) in
     let p12 = passed (not (rightClient h)) 11 _ (p11 .1) in
-    let p13 = passed (not (rightForm s)) 12 _ (p6to12 .1) in
+    let p13 = passed (not (rightForm s)) 12 _ (p12 .1) in
+    let size = neither (ltb (length s) headerSize) _ (p5 .0) in
     let client = both (unicast (h .client)) _ (not-false (rightClient h) (p12 .0)) in
     record {
-      low = ltb-false _ _ (p5 .0);
-      high = ltb-false _ _ (q5 .0);
+      low = ltb-false _ _ (size .0);
+      high = ltb-false _ _ (size .1);
       kind = not-false (queryOrRequest h) (p6 .0);
       header = eqb-true _ _ (not-false (rightLength h) (p7 .0));
       hops = positive (h .hops) (eqb-false _ _ (p8 .0));
@@ -83,8 +78,9 @@ none-applies s e =
       form = not-false (rightForm s) (p13 .0);
     }
 
+-- and to one that is so none applies
 pub applies-none : (s : List ℕ) → Accepted s → numberOf s ≡ 0
-unfolding numberOf headerNumber
+unfolding numberOf firstRow
 applies-none s a =
     let hops : headerOf s .hops ≡ 0 → ⊥ = λ e. omega (arith, a .hops) in
     let port : headerOf s .port ≡ 0 → ⊥ = λ e. omega (arith, a .port) in
@@ -123,20 +119,18 @@ module _ (s : List ℕ) (c : Checked) (answer : c ≡ checkOf s) where
 
 -- every number of these rows is below 14
 pub number-below : (s : List ℕ) → numberOf s < 14
-unfolding numberOf headerNumber
+unfolding numberOf firstRow
 number-below s =
     let h : Header = headerOf s in
-    below (ltb (length s) headerSize) 5 _ (lit≤ tt)
-    (below (ltb most (length s)) 5 _ (lit≤ tt)
-    (else-below _ _
+    below (wrongSize (length s)) 5 _ (lit≤ tt)
     (below (not (queryOrRequest h)) 6 _ (lit≤ tt)
     (below (not (rightLength h)) 7 _ (lit≤ tt)
     (below (eqb (h .hops) 0) 8 _ (lit≤ tt)
     (below (not (rightGroup h)) 9 _ (lit≤ tt)
     (below (not (rightSource h)) 10 _ (lit≤ tt)
     (below (namesNothing h) 11 _ (lit≤ tt)
-    (below (not (rightClient h)) 12 0 (lit≤ tt) (lit≤ tt))))))))
-    (below (not (rightForm s)) 13 0 (lit≤ tt) (lit≤ tt))))
+    (below (not (rightClient h)) 12 _ (lit≤ tt)
+    (below (not (rightForm s)) 13 0 (lit≤ tt) (lit≤ tt)))))))))
 
 -- where the first block is of type 4 there is one of type 4
 first-counted : (blocks : List Block) → standardFirst blocks ≡ true → 0 < length (standardPlaces blocks)

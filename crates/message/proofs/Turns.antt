@@ -69,6 +69,7 @@ count-inside kind size left at count count′ fits f n h e =
     let least : augmentedLeast ≤ size = size-least kind size left fits f n in
     rw e (cond-cases (λ m. m ≤ at + size) (eqb kind standard) (count + 1) count (λ _. omega arith) (λ _. omega arith))
 
+-- where the walk begins nothing was found yet
 pub at-first : (s : List ℕ) → blocksSeen s ≡ joined headerSize 0 0 (blocksFrom headerSize (drop headerSize s))
 unfolding blocksSeen blocksEnd standards blocksOf joined
 at-first s = rw zero-add

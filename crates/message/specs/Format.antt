@@ -9,20 +9,23 @@ headerSize = 20
 abbrev pub most : ℕ
 most = 1472
 
--- types of messages
+-- type of a Query
 abbrev pub query : ℕ
 query = 1
 
+-- type of a Request
 abbrev pub request : ℕ
 request = 2
 
+-- type of a Reply
 abbrev pub reply : ℕ
 reply = 3
 
--- types of blocks: Standard Response Block, and Augmented block
+-- type of a Standard Response Block
 abbrev pub standard : ℕ
 standard = 4
 
+-- type of an Augmented block
 abbrev pub augmented : ℕ
 augmented = 5
 
@@ -34,9 +37,10 @@ standardSize = 52
 abbrev pub codeOffset : ℕ
 codeOffset = 51
 
--- bytes of an Augmented block: at least so many, and a multiple of the unit
+-- an Augmented block has at least so many bytes
 abbrev pub augmentedLeast : ℕ
 augmentedLeast = 8
 
+-- and a multiple of so many
 abbrev pub augmentedUnit : ℕ
 augmentedUnit = 4

@@ -1,6 +1,6 @@
 -- The header of a message (document 01, "Messages"), and what the drop table asks of it (rows 6 to 12).
 use Prim.Native.Nat.{ℕ}
-use mathlib.Core.Bool.{Bool, not, cond, _&&_, _||_}
+use mathlib.Core.Bool.{Bool, not, _&&_, _||_}
 use mathlib.Core.List.{List}
 use lib.Dec.{eqb}
 use Rattle.wire.specs.Numbers.{byteAt, be16, be32}
@@ -46,15 +46,3 @@ namesNothing h = allOnes (h .group) && allOnes (h .source)
 -- a client to which a Reply can go: unicast, with a port
 abbrev pub rightClient : Header → Bool
 rightClient h = unicast (h .client) && not (eqb (h .port) 0)
-
--- rows 6 TYPE to 12 CLIENT of the drop table: the first that applies, 0 if none does
-unfoldable pub headerNumber : Header → ℕ
-headerNumber h =
-    cond (not (queryOrRequest h)) 6
-    (cond (not (rightLength h)) 7
-    (cond (eqb (h .hops) 0) 8
-    (cond (not (rightGroup h)) 9
-    (cond (not (rightSource h)) 10
-    (cond (namesNothing h) 11
-    (cond (not (rightClient h)) 12
-    0))))))

@@ -1,12 +1,12 @@
 // Messages as they arrive: the header read, the blocks walked once, and every rule checked.
 ghost use mathlib.Core.Path.{_≡_};
-ghost use mathlib.Core.Bool.{cond};
+ghost use mathlib.Core.Bool.{true, cond};
 ghost use Prim.Native.Nat.{_≤_};
 ghost use lib.ListN.{length};
 ghost use Rattle.message.specs.Format.{headerSize};
-ghost use Rattle.message.specs.Header.{headerOf, headerNumber};
+ghost use Rattle.message.specs.Header.{headerOf};
 ghost use Rattle.message.specs.Blocks.{fitsIn, rightForm, blocksEnd};
-ghost use Rattle.message.specs.Check.{blocksSeen, refused, checkOf};
+ghost use Rattle.message.specs.Check.{firstRow, blocksSeen, refused, checkOf};
 
 const HEADER_SIZE: usize = 20;
 
@@ -78,9 +78,10 @@ fn row(applies: bool, number: u32, after: u32) -> u32
     if applies { number } else { after }
 }
 
-// The first of rows 6 to 12 that applies to a header, or 0. The last row comes first here: each is handed what follows it.
+// The first of rows 6 to 12 that applies to a header, or 0: the number of a message of right size and form that has it.
+// The last row comes first here: each is handed what the rows after it give.
 fn header_number(h: Header) -> u32
-    ensures { λ r. ⌜ r ≡ headerNumber h ⌝ }
+    ensures { λ r. ⌜ r ≡ firstRow headerSize h true ⌝ }
 {
     let no_group = wire::all_ones(h.group);
     let no_source = wire::all_ones(h.source);

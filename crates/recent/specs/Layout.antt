@@ -12,10 +12,11 @@ use Rattle.wire.specs.Numbers.{byteAt}
 abbrev pub headSize : ℕ
 headSize = 4
 
--- the bytes of an entry's client, and of a whole entry
+-- the bytes of an entry's client
 abbrev pub clientSize : ℕ
 clientSize = 4
 
+-- the bytes of an entry: client and id
 abbrev pub entrySize : ℕ
 entrySize = 6
 

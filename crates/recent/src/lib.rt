@@ -1,6 +1,6 @@
 // The recent list: which Queries were accepted, by client and id, in 196 lent bytes.
 ghost use mathlib.Core.Path.{_≡_};
-ghost use Prim.Native.Nat.{_+_, _*_, _<_, _≤_};
+ghost use Prim.Native.Nat.{_+_, _<_, _≤_};
 ghost use lib.ListN.{length, drop};
 ghost use Rattle.recent.specs.Layout.{allZero, wellFormed, Formed, entryPlace, entrySize, entryCount};
 ghost use Rattle.recent.specs.Entries.{entryAt, isOf, seenIn, grown, movedOn, enteredIn};

@@ -1,11 +1,11 @@
 -- `header_number`: each row is handed what the rows after it give, and the nested rows are the chain of the definition.
-use Rattle.message.specs.Header.{headerNumber}
+use Rattle.message.specs.Check.{firstRow}
 use borrow.Author.Needs.{needs}
 use Rattle.message.proofs.header_number.Statement.{statement}
 use Rattle.message.proofs.header_number.Tie as tie
 
 returns : tie.Need-returns
-unfolding headerNumber
+unfolding firstRow
 returns c =
     let hops = c .before .before .before .before in
     let group = hops .before .before .before in
