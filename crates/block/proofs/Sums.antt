@@ -68,12 +68,12 @@ folded-test : (sum plain : ℕ) → Folded sum plain → eqb sum 65535 ≡ ltb 0
 folded-test sum plain f =
     same-flag (eqb sum 65535) (ltb 0 plain && eqb (plain % 65535) 0)
     (λ e. let q : sum ≡ 65535 = eqb-true sum 65535 e in
-     both-true (ltb 0 plain) (eqb (plain % 65535) 0) (lt-ltb 0 plain (omega arith)) (eq-eqb (plain % 65535) 0 (omega arith)))
+    both-true (ltb 0 plain) (eqb (plain % 65535) 0) (lt-ltb 0 plain (omega arith)) (eq-eqb (plain % 65535) 0 (omega arith)))
     (λ e. let q = both-of (ltb 0 plain) (eqb (plain % 65535) 0) e in
-     let l : 0 < plain = ltb-true 0 plain (q .0) in
-     let k : 0 < sum = f .some l in
-     let z : plain % 65535 ≡ 0 = eqb-true (plain % 65535) 0 (q .1) in
-     eq-eqb sum 65535 (omega arith))
+    let l : 0 < plain = ltb-true 0 plain (q .0) in
+    let k : 0 < sum = f .some l in
+    let z : plain % 65535 ≡ 0 = eqb-true (plain % 65535) 0 (q .1) in
+    eq-eqb sum 65535 (omega arith))
 
 -- the sum so far, of the first n words of 32 bits: how it goes on, and what it is of their plain sum
 record Summed (b : List ℕ) (n : ℕ) : Type 0 where

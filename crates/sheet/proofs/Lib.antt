@@ -9,3 +9,4 @@ pub mod Entries
 pub mod Kept
 pub mod Holders
 pub mod Reading
+pub mod Determined

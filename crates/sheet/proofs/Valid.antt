@@ -65,12 +65,14 @@ run-of : (s : List ℕ) (kind size : ℕ) (right : List ℕ → ℕ → Bool) (f
 unfolding blockOk
 run-of s kind size right first stop within kept =
     record { within = within; frames = λ k l h. both-of (frame k) (switches k) (parts k l h .0) .0; entries = λ k l h. parts k l h .1 } where
-  frame : ℕ → Bool
-  frame k = frameOk kind size k (eqb (k + 1) stop) (blockAt s k)
-  switches : ℕ → Bool
-  switches k = switchesOk k (switchesOf (blockAt s k))
-  parts : (k : ℕ) → first ≤ k → k < stop → (frame k && switches k ≡ true) × (entriesOk size right (blockAt s k) (usedIn (blockAt s k)) ≡ true)
-  parts k l h = both-of (frame k && switches k) (entriesOk size right (blockAt s k) (usedIn (blockAt s k))) (kept k l h)
+      frame : ℕ → Bool
+      frame k = frameOk kind size k (eqb (k + 1) stop) (blockAt s k)
+
+      switches : ℕ → Bool
+      switches k = switchesOk k (switchesOf (blockAt s k))
+
+      parts : (k : ℕ) → first ≤ k → k < stop → (frame k && switches k ≡ true) × (entriesOk size right (blockAt s k) (usedIn (blockAt s k)) ≡ true)
+      parts k l h = both-of (frame k && switches k) (entriesOk size right (blockAt s k) (usedIn (blockAt s k))) (kept k l h)
 
 -- the interface blocks, and the route blocks, of a valid sheet
 module _ (s : List ℕ) (v : Valid s) where
