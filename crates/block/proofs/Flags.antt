@@ -16,3 +16,13 @@ both-true t u e f = rw (e, f)
 pub both-of : (t u : Bool) → t && u ≡ true → (t ≡ true) × (u ≡ true)
 both-of true u e = (refl, e)
 both-of false u e = (e, cc)
+
+-- one of two holds, and it is not the first
+pub other-of : (t u : Bool) → t || u ≡ true → t ≡ false → u ≡ true
+other-of true u e f = cc
+other-of false u e f = e
+
+-- or not the second
+pub first-of : (t u : Bool) → t || u ≡ true → u ≡ false → t ≡ true
+first-of true u e f = refl
+first-of false u e f = cc

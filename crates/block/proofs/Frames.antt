@@ -40,24 +40,25 @@ words-last : (b : List ℕ) → words b 128 ≡ words b 127 + be32 b 508
 unfolding words
 words-last b = refl
 
-module _ (b : List ℕ) (bytes : (i : ℕ) → byteAt b i < 256) where
-  pub framed : (kind size number used rest head last n : ℕ) (partly full : Bool) → length b ≡ 512 → 0 < size → size % 4 ≡ 0 → used ≡ byteAt b 1
-      → used ≤ 504 / size
-      → rest + words b (1 + size * used / 4) ≡ words b 127
-      → head + words b 0 ≡ words b (1 + size * used / 4)
-      → last ≡ be32 b 508
-      → n ≡ be16 b 2
-      → full ≡ filledOk (504 / size) partly used
-      → eqb (byteAt b 0) kind && full && eqb n number && eqb rest 0
-      && (ltb 0 (head + rest + last) && eqb ((head + rest + last) % 65535) 0)
-      ≡ frameOk kind size number partly b
-  unfolding frameOk
-  framed kind size number used rest head last n partly full long some whole eu fits er eh el en ef =
-      let from : ℕ = 1 + size * used / 4 in
-      let place : 4 * from ≡ 4 + size * used = ends size used whole in
-      let zs = rw place at (zeros-plain b from rest long (omega (arith, room size used some fits)) er) in
-      let all : head + rest + last ≡ words b 128 = omega (arith, words-front b, words-last b) in
-      rw (sum-plain b bytes (head + rest + last) long all, ef, ← eu, ← en, ← zs)
+-- the tests of the code are those of the definition
+pub framed : (b : List ℕ) → ((i : ℕ) → byteAt b i < 256) → (kind size number used from rest head last n : ℕ) (partly full : Bool) → length b ≡ 512
+    → size % 4 ≡ 0
+    → used ≡ byteAt b 1
+    → from ≡ 1 + size * used / 4
+    → from ≤ 127
+    → rest + words b from ≡ words b 127
+    → head + words b 0 ≡ words b from
+    → last ≡ be32 b 508
+    → n ≡ be16 b 2
+    → full ≡ filledOk (504 / size) partly used
+    → eqb (byteAt b 0) kind && full && eqb n number && eqb rest 0 && (ltb 0 (head + rest + last) && eqb ((head + rest + last) % 65535) 0)
+    ≡ frameOk kind size number partly b
+unfolding frameOk
+framed b bytes kind size number used from rest head last n partly full long whole eu ew fits er eh el en ef =
+    let place : 4 * from ≡ 4 + size * used = ap (λ (w : ℕ). 4 * w) ew ∙ ends size used whole in
+    let zs = rw place at (zeros-plain b from rest long fits er) in
+    let all : head + rest + last ≡ words b 128 = omega (arith, words-front b, words-last b) in
+    rw (sum-plain b bytes (head + rest + last) long all, ef, ← eu, ← en, ← zs)
 
 -- a block that keeps its frame: at least one entry is in use, at most as many as it has room for, and all of these where it
 -- may not be partly filled

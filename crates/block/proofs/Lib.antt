@@ -2,3 +2,4 @@
 pub mod Flags
 pub mod Sums
 pub mod Frames
+pub mod Determined

@@ -1,6 +1,6 @@
 // The frame of a block of 512 bytes: kind, entries in use, number, unused bytes, sum.
 ghost use mathlib.Core.Path.{_≡_};
-ghost use Prim.Native.Nat.{_+_, _*_, _%_, _≤_, _<_};
+ghost use Prim.Native.Nat.{_+_, _*_, _/_, _%_, _≤_, _<_};
 ghost use lib.ListN.{length};
 ghost use Rattle.block.specs.Block.{blockSize, filledOk, frameOk};
 ghost use Rattle.block.specs.Words.{words};
@@ -26,6 +26,14 @@ fn sum_words(b: &[u8], from: usize, to: usize) -> u64
     sum
 }
 
+// The word at which the entries in use end.
+fn end_of(size: usize, used: usize) -> usize
+    requires { ⌜ size * used ≤ 504 ⌝ }
+    ensures { λ r. ⌜ (r ≡ 1 + size * used / 4) × (r ≤ 127) ⌝ }
+{
+    1 + size * used / 4
+}
+
 fn filled_ok(each: usize, partly: bool, used: usize) -> bool
     ensures { λ r. ⌜ r ≡ filledOk each partly used ⌝ }
 {
@@ -44,7 +52,7 @@ pub fn frame_ok(b: &[u8], kind: u8, size: usize, number: u16, partly: bool) -> b
     if each < used {
         return false;
     }
-    let end = 1 + size * used / 4;
+    let end = end_of(size, used);
     let rest = sum_words(b, end, 127);
     let sum = sum_words(b, 0, end) + rest + wire::be32(b, 508) as u64;
     (b[0] == kind)

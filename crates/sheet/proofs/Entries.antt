@@ -5,8 +5,10 @@ use mathlib.Core.Bool.{Bool, true, false}
 use mathlib.Core.List.{List}
 use mathlib.Core.Path.{_≡_, refl, sym, ap, _∙_}
 use native.Mathlib.Omega.{arith}
+use lib.Dec.{eqb}
 use lib.ListN.{length}
-use Rattle.block.specs.Block.{usedIn, entriesEach, entryAt}
+use borrow.Author.Tests.{ne-eqb}
+use Rattle.block.proofs.Frames.{frame-filled}
 use Rattle.entry.specs.Interface.{interfaceSize, interfaceOk}
 use Rattle.entry.specs.Route.{routeSize, routeOk}
 use Rattle.sheet.specs.Rules.{interfaceKind, routeKind, interfaceRight, routeRight}
@@ -40,13 +42,30 @@ counts-valid s count i none h = by-flag (validSheet s) refl where
   by-flag true e = e
   by-flag false e = absurd (omega (arith, none, rw (layout-refused s e) at h))
 
+-- 1 to 64 interfaces
+pub interfaces-few : (s : List ℕ) → layoutOf s .interfaces ≤ 64
+unfolding counted
+interfaces-few s = by-flag (validSheet s) refl where
+  by-flag : (t : Bool) → validSheet s ≡ t → layoutOf s .interfaces ≤ 64
+  by-flag true e = rw (layout-valid s e) (valid s e .few)
+  by-flag false e = rw (layout-refused s e) (omega arith)
+
+pub interfaces-some : (s : List ℕ) → layoutOf s .valid ≡ true → 1 ≤ layoutOf s .interfaces
+unfolding counted interfacesIn entriesIn
+interfaces-some s e =
+    let t : validSheet s ≡ true = sym (valid-told s) ∙ e in
+    let v = valid s t in
+    let m : ℕ = interfaceBlocks s in
+    let k : ℕ = 0 + (m - 1) in
+    let f = frame-filled interfaceKind interfaceSize k (eqb (k + 1) m) (blockAt s k) (interface-run s v .frames k (omega arith) (omega (arith, v .some))) in
+    rw (layout-valid s t, ne-eqb m 0 (λ z. omega (arith, v .some))) (omega (arith, f .some))
+
 module _ (s : List ℕ) (i : ℕ) (there : i < layoutOf s .interfaces) where
   pub interface-valid : validSheet s ≡ true
   interface-valid = counts-valid s (λ (l : Layout). l .interfaces) i refl there
 
   pub interface-few : i < 64
-  unfolding counted
-  interface-few = omega (arith, rw (layout-valid s interface-valid) at there, valid s interface-valid .few)
+  interface-few = omega (arith, interfaces-few s)
 
   interface-there : There s interfaceSize interfaceRight 0 i
   unfolding counted interfacesIn

@@ -6,4 +6,7 @@ pub mod Valid
 pub mod Places
 pub mod Inside
 pub mod Entries
+pub mod Kept
+pub mod Holders
 pub mod Reading
+pub mod Determined

@@ -35,10 +35,10 @@ module _ (s : List ℕ) (l : Layout) (k : ℕ) (el : l ≡ layoutOf s) (there : 
   unfolding counted
   blocks-told = ap (λ (n : Layout). n .blocks) (el ∙ layout-valid s (route-valid s k routes-there))
 
-  pub route-within : 512 * (l .blocks + k / 9) + (4 + 56 * (k % 9)) + 56 ≤ length s
+  pub route-within : placeOf routeSize (l .blocks) k + routeSize ≤ length s
   route-within = rw blocks-told (route-bytes s k routes-there)
 
-  pub route-read : (r : Route) → r ≡ routeAt s (512 * (l .blocks + k / 9) + (4 + 56 * (k % 9))) → r ≡ routeOf s k
+  pub route-read : (r : Route) → r ≡ routeAt s (placeOf routeSize (l .blocks) k) → r ≡ routeOf s k
   unfolding routeOf
   route-read r e = rw (← blocks-told) e
 

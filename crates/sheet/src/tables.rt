@@ -2,8 +2,10 @@
 use crate::layout::Layout;
 ghost use mathlib.Core.Bool.{true};
 ghost use mathlib.Core.Path.{_≡_};
-ghost use Prim.Native.Nat.{_<_};
+ghost use Prim.Native.Nat.{_+_, _≤_, _<_};
+ghost use lib.ListN.{length};
 ghost use Rattle.entry.specs.Interface.{interfaceSize};
+ghost use Rattle.entry.specs.Route.{routeSize, routeAt};
 ghost use Rattle.sheet.specs.Sheet.{layoutOf};
 ghost use Rattle.sheet.specs.Tables.{placeOf, interfaceOf, routeOf, prohibitedOf, holderOf};
 
@@ -28,12 +30,20 @@ pub fn interface(s: &[u8], i: usize) -> entry::Interface
     entry::interface_at(s, interface_place(i))
 }
 
+// The route at entry `k` of the blocks from block `first` on.
+fn route_from(s: &[u8], first: usize, k: usize) -> entry::Route
+    requires { ⌜ placeOf routeSize first k + routeSize ≤ length (now s) ⌝ }
+    ensures { λ r. ⌜ r ≡ routeAt (now (s .entry)) (placeOf routeSize first k) ⌝ }
+{
+    entry::route_at(s, 512 * (first + k / 9) + (4 + 56 * (k % 9)))
+}
+
 // Route `k`.
 pub fn route(s: &[u8], l: Layout, k: usize) -> entry::Route
     requires { ⌜ (l ≡ layoutOf (now s)) × (k < l .routes) ⌝ }
     ensures { λ r. ⌜ r ≡ routeOf (now (s .entry)) k ⌝ }
 {
-    entry::route_at(s, 512 * (l.blocks + k / 9) + (4 + 56 * (k % 9)))
+    route_from(s, l.blocks, k)
 }
 
 // Whether tracing is prohibited.

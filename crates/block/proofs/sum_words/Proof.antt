@@ -13,27 +13,6 @@ Inv-loop b from to sum₀ i₀ sum i = (i ≤ to) × (sum ≤ 4294967295 * i) ×
 abbrev μ-loop : tie.MeasureT-loop
 μ-loop b from to sum₀ i₀ sum i = to - i
 
-loop-holds : tie.Need-loop-holds Inv-loop μ-loop
-loop-holds c = omega arith
-
-mul-be32 : tie.Need-mul-be32 Inv-loop μ-loop
-mul-be32 c = omega arith
-
-be32-requires : tie.Need-be32-requires Inv-loop μ-loop
-be32-requires c κs = omega arith
-
-cast-sum : tie.Need-cast-sum Inv-loop μ-loop
-cast-sum c = omega arith
-
-add-sum : tie.Need-add-sum Inv-loop μ-loop
-add-sum c = omega arith
-
-add-i : tie.Need-add-i Inv-loop μ-loop
-add-i c = omega arith
-
-loop-less : tie.Need-loop-less Inv-loop μ-loop
-loop-less c = omega arith
-
 loop-again : tie.Need-loop-again Inv-loop μ-loop
 loop-again c = (omega arith, omega arith, search words-more)
 
@@ -46,12 +25,12 @@ sum-words-spec =
     (tie.spec
     Inv-loop
     μ-loop
-    loop-holds
-    mul-be32
-    be32-requires
-    cast-sum
-    add-sum
-    add-i
-    loop-less
+    (λ c. omega arith)
+    (λ c. omega arith)
+    (λ c κs. omega arith)
+    (λ c. omega arith)
+    (λ c. omega arith)
+    (λ c. omega arith)
+    (λ c. omega arith)
     loop-again
     returns)

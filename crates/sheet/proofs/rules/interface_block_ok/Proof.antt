@@ -1,47 +1,18 @@
+-- `interface_block_ok`: the rules of the definition, each by its own function; the frame comes first, since it bounds the entries.
 use borrow.Author.Needs.{needs}
 use borrow.Author.Tests.{not-true, not-false}
 use Rattle.sheet.specs.Rules.{blockOk}
 use Rattle.sheet.proofs.Counts.{used-fits}
 use Rattle.sheet.proofs.rules.interface_block_ok.Statement.{statement}
 use Rattle.sheet.proofs.rules.interface_block_ok.Tie as tie
-use Rattle.sheet.proofs.rules.interface_block_ok.Reads as reads
-use Rattle.sheet.proofs.rules.interface_block_ok.Lts as lts
-use Rattle.block.proofs.frame_ok.Reads as frame-ok-reads
-use Rattle.sheet.proofs.rules.interfaces_ok.Reads as interfaces-ok-reads
-use Rattle.sheet.proofs.rules.switches_ok.Reads as switches-ok-reads
-use Rattle.sheet.proofs.rules.wide.Reads as wide-reads
-use Rattle.wire.proofs.be16.Reads as be16-reads
 
--- src/rules.rt:54:9
-frame-ok-requires : tie.Need-frame-ok-requires
-frame-ok-requires c κs = search needs
-
--- src/rules.rt:55:9
 returns : tie.Need-returns
 unfolding blockOk
 returns c = rw (← c .before .frame-ok .ensures, not-true (c .before .frame-ok .result) (c .if1 .taken))
 
--- src/rules.rt:57:25
-be16-requires : tie.Need-be16-requires
-be16-requires c κs = search needs
-
--- src/rules.rt:57:5
-switches-ok-requires : tie.Need-switches-ok-requires
-switches-ok-requires c κs = search needs
-
--- src/rules.rt:57:69
-shared-slice-read-wide : tie.Need-shared-slice-read-wide
-shared-slice-read-wide c = search needs
-
--- src/rules.rt:57:64
-wide-requires : tie.Need-wide-requires
-wide-requires c κs = search needs
-
--- src/rules.rt:57:47
 interfaces-ok-requires : tie.Need-interfaces-ok-requires
 interfaces-ok-requires c κs = search (used-fits 24, needs)
 
--- src/rules.rt:50:1
 returns-2 : tie.Need-returns-2
 unfolding blockOk
 returns-2 c =
@@ -61,11 +32,11 @@ pub interface-block-ok-spec : {M : Type 1} → statement M
 interface-block-ok-spec =
     tie.close
     (tie.spec
-    frame-ok-requires
+    (λ c κs. search needs)
     returns
-    be16-requires
-    switches-ok-requires
-    shared-slice-read-wide
-    wide-requires
+    (λ c κs. search needs)
+    (λ c κs. search needs)
+    (λ c. search needs)
+    (λ c κs. search needs)
     interfaces-ok-requires
     returns-2)

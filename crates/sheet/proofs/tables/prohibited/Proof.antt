@@ -1,16 +1,12 @@
+-- `prohibited`: block 0 is the front of the sheet.
 use native.Mathlib.Omega.{arith}
 use Rattle.sheet.proofs.Reading.{valid-long, switches-read}
 use Rattle.sheet.proofs.tables.prohibited.Statement.{statement}
 use Rattle.sheet.proofs.tables.prohibited.Tie as tie
-use Rattle.sheet.proofs.tables.prohibited.Reads as reads
-use Rattle.sheet.proofs.tables.prohibited.Lts as lts
-use Rattle.wire.proofs.be16.Reads as be16-reads
 
--- src/tables.rt:44:5
 be16-requires : tie.Need-be16-requires
 be16-requires c κs = omega (arith, valid-long (c .before .args .s .now) (c .before .pre))
 
--- src/tables.rt:40:1
 returns : tie.Need-returns
 returns c = search switches-read
 
