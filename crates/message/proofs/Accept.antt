@@ -101,7 +101,8 @@ module _ (s : List ℕ) (c : Checked) (answer : c ≡ checkOf s) where
     pub check-accepts : Accepted s
     check-accepts = none-applies s none
 
-    accepts-as : c ≡ accepted s
+    -- what the check answers for it
+    pub accepts-as : c ≡ accepted s
     unfolding checkOf
     accepts-as = rw (answer, eq-eqb (numberOf s) 0 none)
 

@@ -1,0 +1,2 @@
+-- Laws that this crate's proofs and the crates above cite.
+pub mod Rows
