@@ -1,0 +1,87 @@
+-- What a router sends when it has accepted a message (document 01, "One router's step"): the Request on, or the Reply home.
+use Prim.Native.Nat.{ℕ, _+_}
+use mathlib.Core.Bool.{Bool, cond}
+use mathlib.Core.List.{List, _++_}
+use lib.ListN.{length, set}
+use Rattle.sheet.specs.Tables.{interfaceOf}
+use Rattle.route.specs.declared.Chosen.{Chosen}
+use Rattle.route.specs.declared.Chosen.the-variants.{Found, Nothing}
+use Rattle.response.specs.declared.Incoming.{Incoming}
+use Rattle.response.specs.declared.View.{View}
+use Rattle.response.specs.declared.Block.{Block}
+use Rattle.response.specs.declared.Note.{Note}
+use Rattle.response.specs.View.{addressOf}
+use Rattle.response.specs.Fill.{upstreamOf, blockOf, endsTrace}
+use Rattle.response.specs.Bytes.{blockBytes}
+use Rattle.message.specs.declared.Header.{Header}
+use Rattle.message.specs.Format.{request, reply, codeOffset}
+use Rattle.message.specs.Header.{headerOf}
+use Rattle.message.specs.Blocks.{standardCount, lastStandard}
+use Rattle.drops.specs.Arrival.{Arrival}
+use Rattle.drops.specs.Drop.{isFull}
+use Rattle.engine.specs.View.{viewOf}
+
+-- the answers: 100 is a Request sent on, 101 a Reply
+abbrev pub sentOn : ℕ
+sentOn = 100
+
+abbrev pub sentHome : ℕ
+sentHome = 101
+
+-- the UDP port that routers listen on
+abbrev pub mtracePort : ℕ
+mtracePort = 33435
+
+-- 0x81, NO_SPACE: there was no room for this router's block
+abbrev pub noSpace : ℕ
+noSpace = 129
+
+-- the interface of a Reply: whichever leads there
+abbrev pub anyInterface : ℕ
+anyInterface = 65535
+
+-- the answer, the message sent, and the answer record's fields
+pub record Sent : Type 0 where
+  pub answer : ℕ
+  pub message : List ℕ
+  pub note : Note
+
+-- the record of a Reply: client, client port, 65535, the receiving interface's address
+abbrev pub noteHome : Header → ℕ → ℕ → Note
+noteHome h length source =
+    record { length = length; destination = h .client; port = h .port; interface = anyInterface; source = source }
+
+-- the record of a Request sent on: upstream or 224.0.0.2, 33435, the incoming interface and its address
+abbrev pub noteOn : Chosen → Incoming → ℕ → Note
+noteOn Nothing incoming length = record { length = length; destination = 0; port = 0; interface = 0; source = 0 }
+noteOn (Found r) incoming length =
+    record { length = length; destination = upstreamOf r; port = mtracePort; interface = r .incoming; source = addressOf incoming }
+
+abbrev pub home : Header → ℕ → List ℕ → Sent
+home h source message = record { answer = sentHome; message = message; note = noteHome h (length message) source }
+
+abbrev pub on : View → List ℕ → Sent
+on v message = record { answer = sentOn; message = message; note = noteOn (v .chosen) (v .incoming) (length message) }
+
+-- 1. there is no room: copy, type 3, code 0x81 in the last type 4 block
+abbrev pub fullMessage : List ℕ → List ℕ
+fullMessage m = set (set m 0 reply) (lastStandard m + codeOffset) noSpace
+
+-- 2. to 4. the message with its type and this router's block appended
+unfoldable pub longerMessage : ℕ → List ℕ → Block → List ℕ
+longerMessage kind m b = set m 0 kind ++ blockBytes b
+
+-- 5. with type 4 blocks as they are now: a Reply home, or the Request on
+unfoldable pub longerAnswer : List ℕ → View → Sent
+longerAnswer m v =
+    let h = headerOf m in
+    let last = home h (v .here .address) (longerMessage reply m (blockOf v)) in
+    let next = on v (longerMessage request m (blockOf v)) in
+    cond (endsTrace v (standardCount m + 1) (h .hops)) last next
+
+unfoldable pub sentBy : Arrival → ℕ → List ℕ → Sent
+sentBy a time sheet =
+    let m = a .message in
+    let full = home (headerOf m) (interfaceOf sheet (a .receiving) .address) (fullMessage m) in
+    let longer = longerAnswer m (viewOf a time sheet) in
+    cond (isFull (length m)) full longer

@@ -1,0 +1,54 @@
+-- One router's step as a whole: the answer, and every lent byte as it is left.
+use Prim.Native.Nat.{ℕ}
+use mathlib.Core.Bool.{Bool, cond}
+use mathlib.Core.List.{List}
+use mathlib.Core.Path.{_≡_}
+use lib.Dec.{eqb}
+use lib.ListN.{length}
+use Rattle.wire.specs.Parts.{splice}
+use Rattle.recent.specs.Entries.{enteredIn}
+use Rattle.response.specs.Bytes.{noteBytes}
+use Rattle.message.specs.declared.Header.{Header}
+use Rattle.message.specs.Header.{headerOf}
+use Rattle.drops.specs.Arrival.{Arrival, isQuery}
+use Rattle.drops.specs.Drop.{dropOf}
+use Rattle.engine.specs.Answer.{Sent, sentBy}
+
+-- the answer, and the recent list, the output and the answer record as they are left
+pub record Outcome : Type 0 where
+  pub answer : ℕ
+  pub recent : List ℕ
+  pub output : List ℕ
+  pub note : List ℕ
+
+abbrev pub outcome : ℕ → List ℕ → List ℕ → List ℕ → Outcome
+outcome answer recent output note = record { answer = answer; recent = recent; output = output; note = note }
+
+-- an accepted Query is written into the recent list; nothing else changes it
+unfoldable pub recentAfter : Header → List ℕ → List ℕ
+recentAfter h recent = let entered = enteredIn recent (h .client) (h .id) in cond (isQuery h) entered recent
+
+-- what is sent and its record are written over the first bytes; those past them stay
+pub record Written (sent : Sent) (output note : List ℕ) (answer : ℕ) (output′ note′ : List ℕ) : Type 0 where
+  pub says : answer ≡ sent .answer
+  pub sends : output′ ≡ splice output 0 (sent .message)
+  pub notes : note′ ≡ splice note 0 (noteBytes (sent .note))
+
+-- an accepted message is answered by what is sent, and a Query is entered
+abbrev pub answeredBy : Sent → Header → List ℕ → List ℕ → List ℕ → Outcome
+answeredBy sent h recent output note =
+    outcome (sent .answer) (recentAfter h recent) (splice output 0 (sent .message)) (splice note 0 (noteBytes (sent .note)))
+
+unfoldable pub accepted : Arrival → ℕ → List ℕ → List ℕ → List ℕ → List ℕ → Outcome
+accepted a time sheet recent output note = answeredBy (sentBy a time sheet) (headerOf (a .message)) recent output note
+
+-- a drop returns its number and changes nothing lent
+unfoldable pub stepOf : Arrival → ℕ → List ℕ → List ℕ → List ℕ → List ℕ → Outcome
+stepOf a time sheet recent output note =
+    let drop = dropOf a sheet recent (length output) (length note) in
+    let taken = accepted a time sheet recent output note in
+    cond (eqb drop 0) taken (outcome drop recent output note)
+
+-- what the step promises: its outcome is that one
+abbrev pub StepMeets : Arrival → ℕ → List ℕ → List ℕ → List ℕ → List ℕ → Outcome → Type 0
+StepMeets a time sheet recent output note o = o ≡ stepOf a time sheet recent output note

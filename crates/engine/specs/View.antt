@@ -1,0 +1,48 @@
+-- What the router looks at when it answers.
+use Prim.Native.Nat.{ℕ, _<_}
+use mathlib.Core.Bool.{Bool, cond}
+use mathlib.Core.List.{List}
+use mathlib.Core.Path.{_≡_}
+use lib.Dec.{eqb}
+use Rattle.entry.specs.Route.{unknown}
+use Rattle.sheet.specs.Tables.{interfaceOf, prohibitedOf}
+use Rattle.route.specs.declared.Chosen.{Chosen}
+use Rattle.route.specs.declared.Chosen.the-variants.{Found, Nothing}
+use Rattle.response.specs.declared.View.{View}
+use Rattle.response.specs.declared.Incoming.{Incoming}
+use Rattle.response.specs.declared.Incoming.the-variants.{Known, Unknown}
+use Rattle.message.specs.declared.Header.{Header}
+use Rattle.message.specs.Header.{headerOf}
+use Rattle.drops.specs.Arrival.{Arrival, isQuery, routeFor, lastHopFor}
+
+-- the incoming interface that a route names, where it is known
+unfoldable pub incomingFor : List ℕ → Chosen → Incoming
+incomingFor sheet Nothing = Unknown
+incomingFor sheet (Found r) =
+    let known = Known (interfaceOf sheet (r .incoming)) in
+    cond (eqb (r .incoming) unknown) Unknown known
+
+-- a route's incoming interface is one of so many, or unknown, as in every valid sheet
+abbrev pub RouteThere : ℕ → Chosen → Type 0
+RouteThere interfaces Nothing = Unit {0}
+RouteThere interfaces (Found r) = (r .incoming ≡ unknown → ⊥) → r .incoming < interfaces
+
+-- what the router looks at, for a header that came in on an interface at a time, with the route for it
+unfoldable pub viewWith : List ℕ → Header → Chosen → Bool → ℕ → ℕ → View
+viewWith sheet h chosen proper receiving time =
+    record {
+      query = isQuery h;
+      proper = proper;
+      chosen = chosen;
+      incoming = incomingFor sheet chosen;
+      prohibited = prohibitedOf sheet;
+      number = receiving;
+      here = interfaceOf sheet receiving;
+      group = h .group;
+      time = time;
+    }
+
+abbrev pub viewOf : Arrival → ℕ → List ℕ → View
+viewOf a time sheet =
+    let h = headerOf (a .message) in
+    viewWith sheet h (routeFor sheet h) (lastHopFor sheet h) (a .receiving) time

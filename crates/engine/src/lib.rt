@@ -1,0 +1,204 @@
+// One router's step: what arrives is dropped by its number, or answered by the Request sent on or the Reply sent home.
+use drops::Verdict;
+use entry::Interface;
+use message::Header;
+use response::Block;
+use response::Incoming;
+use response::Note;
+use response::View;
+use route::Chosen;
+ghost use mathlib.Core.Path.{_≡_};
+ghost use Prim.Native.Nat.{_+_, _≤_, _<_};
+ghost use lib.ListN.{length, set};
+ghost use Rattle.wire.specs.Parts.{splice};
+ghost use Rattle.recent.specs.Layout.{Formed};
+ghost use Rattle.sheet.specs.Sheet.{layoutOf};
+ghost use Rattle.response.specs.View.{addressOf};
+ghost use Rattle.response.specs.Bytes.{blockBytes, noteBytes};
+ghost use Rattle.drops.specs.Arrival.{arrival};
+ghost use Rattle.engine.specs.View.{incomingFor, RouteThere, viewWith};
+ghost use Rattle.engine.specs.Answer.{noteHome, noteOn, home, fullMessage, longerMessage, longerAnswer};
+ghost use Rattle.engine.specs.Ready.{Roomy, Full, Ready, answered};
+ghost use Rattle.engine.specs.Step.{outcome, recentAfter, Written, StepMeets};
+
+// The incoming interface that the route chosen names.
+fn incoming_for(sheet: &[u8], chosen: Chosen) -> Incoming
+    requires { ⌜ RouteThere (layoutOf (now sheet) .interfaces) chosen ⌝ }
+    ensures { λ r. ⌜ r ≡ incomingFor (now (sheet .entry)) chosen ⌝ }
+{
+    match chosen {
+        Chosen::Found(r) => {
+            if r.incoming == 65535 {
+                return Incoming::Unknown;
+            }
+            Incoming::Known(sheet::interface(sheet, r.incoming as usize))
+        }
+        Chosen::Nothing => Incoming::Unknown,
+    }
+}
+
+// No room: the message as a Reply, with 0x81 in its last type 4 block, which begins at `last`.
+fn write_full(message: &[u8], last: usize, output: &mut [u8])
+    requires { ⌜ (last + 52 ≤ length (now message)) × (length (now message) ≤ length (now output)) ⌝ }
+    ensures { λ _. ⌜ now (output .exit) ≡ splice (now (output .entry)) 0 (set (set (now (message .entry)) 0 3) (last + 51) 129) ⌝ }
+{
+    wire::copy_to(output, 0, message);
+    output[0] = 3;
+    output[last + 51] = 129;
+}
+
+// The message with its type, and a block behind it.
+fn write_longer(message: &[u8], kind: u8, block: Block, output: &mut [u8])
+    requires { ⌜ (0 < length (now message)) × (length (now message) + 52 ≤ length (now output)) ⌝ }
+    ensures { λ _. ⌜ now (output .exit) ≡ splice (now (output .entry)) 0 (longerMessage kind (now (message .entry)) block) ⌝ }
+{
+    let bytes = response::block_bytes(block);
+    wire::copy_to(output, 0, message);
+    output[0] = kind;
+    wire::copy_to(output, message.len(), &bytes);
+}
+
+// The answer record.
+fn write_note(n: Note, note: &mut [u8])
+    requires { ⌜ 16 ≤ length (now note) ⌝ }
+    ensures { λ _. ⌜ now (note .exit) ≡ splice (now (note .entry)) 0 (noteBytes n) ⌝ }
+{
+    let bytes = response::note_bytes(n);
+    wire::copy_to(note, 0, &bytes);
+}
+
+// An accepted Query is entered in the recent list.
+fn write_recent(h: Header, recent: &mut [u8])
+    requires { ⌜ Formed (now recent) ⌝ }
+    ensures { λ _. ⌜ now (recent .exit) ≡ recentAfter h (now (recent .entry)) ⌝ }
+{
+    if h.kind == 1 {
+        recent::enter(recent, h.client, h.id);
+    }
+}
+
+// The record of a Reply.
+fn note_home(h: Header, length: usize, source: u32) -> Note
+    requires { ⌜ length ≤ 1472 ⌝ }
+    ensures { λ n. ⌜ n ≡ noteHome h length source ⌝ }
+{
+    Note {
+        length: length as u16,
+        destination: h.client,
+        port: h.port,
+        interface: 65535,
+        source,
+    }
+}
+
+fn address_of(i: Incoming) -> u32
+    ensures { λ a. ⌜ a ≡ addressOf i ⌝ }
+{
+    match i {
+        Incoming::Known(i) => i.address,
+        Incoming::Unknown => 0,
+    }
+}
+
+// The record of a Request sent on.
+fn note_on(chosen: Chosen, incoming: Incoming, length: usize) -> Note
+    requires { ⌜ length ≤ 1472 ⌝ }
+    ensures { λ n. ⌜ n ≡ noteOn chosen incoming length ⌝ }
+{
+    match chosen {
+        Chosen::Found(r) => Note {
+            length: length as u16,
+            destination: response::upstream(r),
+            port: 33435,
+            interface: r.incoming,
+            source: address_of(incoming),
+        },
+        Chosen::Nothing => Note {
+            length: length as u16,
+            destination: 0,
+            port: 0,
+            interface: 0,
+            source: 0,
+        },
+    }
+}
+
+// What the router looks at when it answers.
+fn view_with(sheet: &[u8], h: Header, chosen: Chosen, proper: bool, receiving: u32, time: u32) -> View
+    requires { ⌜ receiving < layoutOf (now sheet) .interfaces ⌝ }
+    requires { ⌜ RouteThere (layoutOf (now sheet) .interfaces) chosen ⌝ }
+    ensures { λ v. ⌜ v ≡ viewWith (now (sheet .entry)) h chosen proper receiving time ⌝ }
+{
+    View {
+        query: h.kind == 1,
+        proper,
+        chosen,
+        incoming: incoming_for(sheet, chosen),
+        prohibited: sheet::prohibited(sheet),
+        number: receiving,
+        here: sheet::interface(sheet, receiving as usize),
+        group: h.group,
+        time,
+    }
+}
+
+// There is room: the block is appended, and the message goes home or on.
+fn send_longer(message: &[u8], h: Header, blocks: usize, v: View, output: &mut [u8], note: &mut [u8]) -> u32
+    requires { ⌜ Roomy (now message) h blocks v (length (now output)) (length (now note)) ⌝ }
+    ensures { λ r. ⌜ Written (longerAnswer (now (message .entry)) v) (now (output .entry)) (now (note .entry)) r (now (output .exit)) (now (note .exit)) ⌝ }
+{
+    let block = response::block_of(v);
+    let length = message.len() + 52;
+    if response::ends_trace(v, blocks as u32 + 1, h.hops as u32) {
+        let here = v.here;
+        write_longer(message, 3, block, output);
+        write_note(note_home(h, length, here.address), note);
+        return 101;
+    }
+    let chosen = v.chosen;
+    let incoming = v.incoming;
+    write_longer(message, 2, block, output);
+    write_note(note_on(chosen, incoming, length), note);
+    100
+}
+
+// There is no room: the message goes home with 0x81.
+fn send_full(message: &[u8], h: Header, last: usize, here: Interface, output: &mut [u8], note: &mut [u8]) -> u32
+    requires { ⌜ Full (now message) h last (length (now output)) (length (now note)) ⌝ }
+    ensures { λ r. ⌜ Written (home h (here .address) (fullMessage (now (message .entry)))) (now (output .entry)) (now (note .entry)) r (now (output .exit)) (now (note .exit)) ⌝ }
+{
+    write_full(message, last, output);
+    write_note(note_home(h, message.len(), here.address), note);
+    101
+}
+
+// Answers a message that was accepted, and enters a Query.
+fn answer(message: &[u8], receiving: u32, time: u32, v: Verdict, sheet: &[u8], recent: &mut [u8], output: &mut [u8], note: &mut [u8]) -> u32
+    requires { ⌜ Ready (now message) receiving v (now sheet) (now recent) (length (now output)) (length (now note)) ⌝ }
+    ensures { λ r. ⌜ outcome r (now (recent .exit)) (now (output .exit)) (now (note .exit))
+      ≡ answered (now (message .entry)) receiving time v (now (sheet .entry)) (now (recent .entry)) (now (output .entry)) (now (note .entry)) ⌝ }
+{
+    let h = v.header;
+    let blocks = v.blocks;
+    write_recent(h, recent);
+    if 1472 < message.len() + 52 {
+        let here = sheet::interface(sheet, receiving as usize);
+        return send_full(message, h, blocks.last, here, output, note);
+    }
+    let chosen = v.chosen;
+    let view = view_with(sheet, h, chosen, v.proper, receiving, time);
+    send_longer(message, h, blocks.count, view, output, note)
+}
+
+// One router's step. The answer is the drop number, and nothing lent is changed; or 100 for a Request sent on, or 101 for a
+// Reply, with the message in `output` and its record in `note`.
+pub fn step(message: &[u8], destination: u32, receiving: u32, ttl: u32, time: u32, sheet: &[u8], recent: &mut [u8], output: &mut [u8], note: &mut [u8]) -> u32
+    ensures { λ r. ⌜ StepMeets (arrival (now (message .entry)) destination receiving ttl) time (now (sheet .entry)) (now (recent .entry)) (now (output .entry)) (now (note .entry))
+      (outcome r (now (recent .exit)) (now (output .exit)) (now (note .exit))) ⌝ }
+{
+    let v = drops::judge(message, destination, receiving, ttl, sheet, recent, output.len(), note.len());
+    if v.number != 0 {
+        return v.number;
+    }
+    answer(message, receiving, time, v, sheet, recent, output, note)
+}
