@@ -1,0 +1,4 @@
+-- Laws that this crate's proofs and the crates above cite.
+pub mod Rows
+pub mod Writes
+pub mod Steps
