@@ -35,3 +35,8 @@ pub ruleset parts = (both-first, both-second)
 pub one-of : (t u : Bool) → t || u ≡ true → (t ≡ true) ⊎ (u ≡ true)
 one-of true u e = inl refl
 one-of false u e = inr e
+
+-- neither holds
+pub neither-of : (t u : Bool) → t || u ≡ false → (t ≡ false) × (u ≡ false)
+neither-of true u e = (e, cc)
+neither-of false u e = (refl, e)
