@@ -3,7 +3,7 @@
 use Prim.Native.Nat.{ℕ, _+_, _*_, _-_, _/_, _%_, _≤_, _<_}
 use mathlib.Core.Bool.{Bool, true, false}
 use mathlib.Core.List.{List}
-use mathlib.Core.Path.{_≡_, refl, sym, ap, _∙_}
+use mathlib.Core.Path.{_≡_, refl, sym, _∙_}
 use native.Mathlib.Omega.{arith}
 use lib.Dec.{eqb}
 use lib.ListN.{length}
@@ -13,9 +13,10 @@ use Rattle.entry.specs.Interface.{interfaceSize, interfaceOk}
 use Rattle.entry.specs.Route.{routeSize, routeOk}
 use Rattle.sheet.specs.Rules.{interfaceKind, routeKind, interfaceRight, routeRight}
 use Rattle.sheet.specs.Sheet.{blocks, blockAt, interfaceBlocks, interfacesIn, routesIn, entriesIn, validSheet, refused, counted, layoutOf}
-use Rattle.sheet.specs.Tables.{placeOf, interfaceOf, routeOf}
+use Rattle.sheet.specs.Tables.{placeOf, interfaceOf, routeOf, interfacesOf, routesOf}
 use Rattle.sheet.specs.declared.layout.Layout.{Layout}
-use Rattle.sheet.proofs.Valid.{Valid, valid, interface-run, route-run}
+use Rattle.sheet.proofs.Numbered.{length-listed}
+use Rattle.sheet.proofs.Valid.{valid, interface-run, route-run}
 use Rattle.sheet.proofs.Places.{There, entry-there}
 use Rattle.sheet.proofs.Inside.{interface-in, route-in}
 
@@ -34,6 +35,26 @@ valid-told s = by-flag (validSheet s) refl where
   by-flag : (t : Bool) → validSheet s ≡ t → layoutOf s .valid ≡ validSheet s
   by-flag true e = rw (layout-valid s e, e)
   by-flag false e = rw (layout-refused s e, e)
+
+-- what a layout that the check gave tells of the sheet
+module _ (s : List ℕ) (l : Layout) (el : l ≡ layoutOf s) where
+  pub check-valid : l .valid ≡ true → validSheet s ≡ true
+  check-valid e = sym (valid-told s) ∙ rw el at e
+
+  pub check-interface : (i : ℕ) → i < l .interfaces → i < layoutOf s .interfaces
+  check-interface i h = rw el at h
+
+  pub check-route : (k : ℕ) → k < l .routes → k < layoutOf s .routes
+  check-route k h = rw el at h
+
+-- the lists are as long as the layout says
+pub length-interfaces : (s : List ℕ) → length (interfacesOf s) ≡ layoutOf s .interfaces
+unfolding interfacesOf
+length-interfaces s = length-listed (interfaceOf s) 0 (layoutOf s .interfaces)
+
+pub length-routes : (s : List ℕ) → length (routesOf s) ≡ layoutOf s .routes
+unfolding routesOf
+length-routes s = length-listed (routeOf s) 0 (layoutOf s .routes)
 
 -- where something is counted the sheet is valid
 counts-valid : (s : List ℕ) (count : Layout → ℕ) (i : ℕ) → count refused ≡ 0 → i < count (layoutOf s) → validSheet s ≡ true
