@@ -1,4 +1,4 @@
--- The plain sum of the 32-bit words, joined to what the definitions say: the sum of RFC 1071, and unused bytes that are zero.
+-- The plain sum of the 32-bit words, joined to the sum of RFC 1071: end-around carry takes multiples of 65535 away.
 use Prim.Native.Nat.{ℕ, zero, suc, _+_, _*_, _/_, _%_, _-_, _≤_, _<_}
 use mathlib.Core.Bool.{_&&_}
 use mathlib.Core.Path.{_≡_, refl, ap, _∙_}
@@ -14,7 +14,7 @@ use Rattle.block.specs.Sum.{carried, sumFrom, sumOk}
 use Rattle.block.specs.Words.{words}
 use Rattle.block.proofs.Flags.{same-flag, both-true, both-of}
 
--- one word more
+-- the loop: one word more, and all of them
 pub words-more : (b : List ℕ) (sum from i x : ℕ) → sum + words b from ≡ words b i → x ≡ be32 b (4 * i) → sum + x + words b from ≡ words b (i + 1)
 unfolding words
 words-more b sum from i x e f = rw (add-one, ← e, f) (omega arith)
@@ -33,7 +33,7 @@ pub word : (b : List ℕ) (at : ℕ) → be32 b at ≡ (byteAt b at * 256 + byte
 unfolding be
 word b at = refl
 
--- end-around carry takes away multiples of 65535, and comes to 0 from 0 alone
+-- a sum with end-around carry beside the plain one: multiples of 65535 are gone, and it is 0 only where the plain one is
 record Folded (sum plain : ℕ) : Type 0 where
   times : ℕ
   is : plain ≡ sum + 65535 * times
@@ -61,6 +61,7 @@ folded-word sum plain high low f h l =
     let g = folded-more (carried (sum + high)) (plain + high) low (folded-more sum plain high f h) l in
     record { times = g .times + high; is = omega (arith, g .is); most = g .most; some = λ k. g .some (omega arith) }
 
+-- so it is 0xFFFF where the plain one is a multiple of 65535, and not 0
 folded-test : (sum plain : ℕ) → Folded sum plain → eqb sum 65535 ≡ ltb 0 plain && eqb (plain % 65535) 0
 folded-test sum plain f =
     same-flag (eqb sum 65535) (ltb 0 plain && eqb (plain % 65535) 0)

@@ -42,9 +42,7 @@ entries-some s each first count x h e = rw (ne-eqb count 0 h, e)
 
 -- few blocks hold few entries
 pub entries-few : (each count : ℕ) → each ≤ 21 → count ≤ 16 → each * (count - 1) ≤ 315
-entries-few each count h k = omega (arith, mul-le-mul h (n-le-m count k)) where
-  n-le-m : (count : ℕ) → count ≤ 16 → count - 1 ≤ 15
-  n-le-m count k = omega arith
+entries-few each count h k = let m : count - 1 ≤ 15 = omega arith in omega (arith, mul-le-mul h m)
 
 -- the entries in use of a block whose frame was found to hold
 pub used-fits : (size kind number : ℕ) (partly ok : Bool) (b : List ℕ) (used : ℕ) → ok ≡ frameOk kind size number partly b → not ok ≡ false → used ≡ usedIn b
