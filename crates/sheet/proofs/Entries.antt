@@ -34,17 +34,6 @@ pub valid-told : (s : List ℕ) → layoutOf s .valid ≡ validSheet s
 unfolding counted
 valid-told s = layout-cases (λ (l : Layout). l .valid ≡ validSheet s) s sym sym
 
--- what a layout that the check gave tells of the sheet
-module _ (s : List ℕ) (l : Layout) (el : l ≡ layoutOf s) where
-  pub check-valid : l .valid ≡ true → validSheet s ≡ true
-  check-valid e = sym (valid-told s) ∙ rw el at e
-
-  pub check-interface : (i : ℕ) → i < l .interfaces → i < layoutOf s .interfaces
-  check-interface i h = rw el at h
-
-  pub check-route : (k : ℕ) → k < l .routes → k < layoutOf s .routes
-  check-route k h = rw el at h
-
 -- the lists are as long as the layout says
 pub length-interfaces : (s : List ℕ) → length (interfacesOf s) ≡ layoutOf s .interfaces
 unfolding interfacesOf

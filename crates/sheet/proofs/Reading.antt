@@ -20,7 +20,8 @@ use Rattle.sheet.specs.declared.layout.Layout.{Layout}
 use Rattle.sheet.specs.declared.tables.Found.{Found}
 use Rattle.sheet.specs.declared.tables.Found.the-variants.{At, Nothing}
 use Rattle.sheet.proofs.Valid.{valid}
-use Rattle.sheet.proofs.Entries.{layout-valid, valid-told, check-interface, check-route, interface-few, interface-bytes, route-valid, route-bytes}
+use Rattle.sheet.proofs.Told.{check-interface, check-route}
+use Rattle.sheet.proofs.Entries.{layout-valid, valid-told, interface-few, interface-bytes, route-valid, route-bytes}
 
 -- an interface's place
 pub place-within : (s : List ℕ) (i at : ℕ) → at ≡ placeOf interfaceSize 0 i → i < layoutOf s .interfaces → at + 24 ≤ length s
