@@ -1,5 +1,4 @@
 -- Tests joined: what a test that is made of others says of each.
-use Prim.Native.Nat.{ℕ, zero, suc, _<_}
 use mathlib.Core.Bool.{Bool, true, false, _&&_, _||_}
 use mathlib.Core.Path.{_≡_, refl, sym}
 

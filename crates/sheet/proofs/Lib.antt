@@ -8,5 +8,6 @@ pub mod Inside
 pub mod Entries
 pub mod Kept
 pub mod Holders
+pub mod Told
 pub mod Reading
 pub mod Determined
