@@ -12,7 +12,7 @@ use Rattle.wire.specs.Numbers.{byteAt, be16, be32}
 use Rattle.block.specs.Sum.{sumOk}
 use Rattle.block.specs.Block.{kindOf, usedIn, numberOf, entriesEach, unusedOf, zeros, filledOk, frameOk}
 use Rattle.block.specs.Words.{words}
-use Rattle.block.proofs.Flags.{both-of}
+use Rattle.wire.proofs.Flags.{both-of}
 use Rattle.block.proofs.Sums.{sum-plain}
 use Rattle.block.proofs.Unused.{zeros-plain}
 

@@ -12,7 +12,7 @@ use Rattle.wire.proofs.First.{cond-cases}
 use Rattle.block.specs.Block.{usedIn, switchesOf, frameOk}
 use Rattle.entry.specs.Interface.{interfaceSize}
 use Rattle.entry.specs.Route.{routeSize}
-use Rattle.block.proofs.Flags.{both-of}
+use Rattle.wire.proofs.Flags.{both-of}
 use Rattle.sheet.specs.Every.{every}
 use Rattle.sheet.specs.Rules.{interfaceKind, routeKind, switchesOk, interfaceRight, routeRight, entriesOk, blockOk}
 use Rattle.sheet.specs.Sheet.{sizeOk, blocks, blockAt, interfaceBlocksIn, interfaceBlocks, interfacesIn, blockOkAt, validSheet}
