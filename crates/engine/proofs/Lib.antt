@@ -1,0 +1,5 @@
+-- Laws that this crate's proofs and the crates above cite.
+pub mod LawsDrop
+pub mod LawsSent
+pub mod LawsOn
+pub mod Determined
