@@ -113,7 +113,7 @@ module _ (m : List ℕ) (destination receiving ttl : ℕ) (s r : List ℕ) (outp
 
     module _ (none : n ≡ 0) (k : Checked) (checked : k ≡ checkOf m) where
       pub judged-message : (v : Verdict) → (k .number ≡ 0 → ⊥) → v ≡ dropped (k .number) → v ≡ verdictOf (arrival m destination receiving ttl) s r output note
-      judged-message v some e = 
+      judged-message v some e =
           e ∙ rw (grouped, ← layout, ← lending, eq-eqb n 0 none, ← check-number m k checked, ne-eqb (k .number) 0 some)
 
       pub judged-routed : (v : Verdict) → k .number ≡ 0 → v ≡ routedOf (length m) (k .header) (k .blocks) destination ttl s r

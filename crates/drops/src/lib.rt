@@ -78,7 +78,15 @@ fn is_seen(recent: &[u8], h: Header) -> bool
 }
 
 // Rows 14 to 17.
-fn delivery_row(sheet: &[u8], layout: Layout, recent: &[u8], h: Header, blocks: usize, destination: u32, ttl: u32) -> u32
+fn delivery_row(
+    sheet: &[u8],
+    layout: Layout,
+    recent: &[u8],
+    h: Header,
+    blocks: usize,
+    destination: u32,
+    ttl: u32,
+) -> u32
     requires { ⌜ layout ≡ layoutOf (now sheet) ⌝ }
     requires { ⌜ Formed (now recent) ⌝ }
     ensures { λ r. ⌜ r ≡ deliveryRow (now (sheet .entry)) (now (recent .entry)) h blocks destination ttl ⌝ }
@@ -138,7 +146,16 @@ fn dropped(number: u32) -> Verdict
 }
 
 // Rows 14 to 19, where the sheet, the recent list and the message itself are right.
-fn routed(size: usize, h: Header, b: Blocks, destination: u32, ttl: u32, sheet: &[u8], layout: Layout, recent: &[u8]) -> Verdict
+fn routed(
+    size: usize,
+    h: Header,
+    b: Blocks,
+    destination: u32,
+    ttl: u32,
+    sheet: &[u8],
+    layout: Layout,
+    recent: &[u8],
+) -> Verdict
     requires { ⌜ layout ≡ layoutOf (now sheet) ⌝ }
     requires { ⌜ Formed (now recent) ⌝ }
     requires { ⌜ size ≤ 1472 ⌝ }
@@ -164,7 +181,16 @@ fn routed(size: usize, h: Header, b: Blocks, destination: u32, ttl: u32, sheet: 
 }
 
 // What a router makes of what arrives: the first row that applies, or what the answer needs.
-pub fn judge(message: &[u8], destination: u32, receiving: u32, ttl: u32, sheet: &[u8], recent: &[u8], output: usize, note: usize) -> Verdict
+pub fn judge(
+    message: &[u8],
+    destination: u32,
+    receiving: u32,
+    ttl: u32,
+    sheet: &[u8],
+    recent: &[u8],
+    output: usize,
+    note: usize,
+) -> Verdict
     ensures { λ v. ⌜ v ≡ verdictOf (arrival (now (message .entry)) destination receiving ttl) (now (sheet .entry)) (now (recent .entry)) output note ⌝ }
 {
     let layout = sheet::check(sheet);

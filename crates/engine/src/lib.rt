@@ -124,7 +124,14 @@ fn note_on(chosen: Chosen, incoming: Incoming, length: usize) -> Note
 }
 
 // What the router looks at when it answers.
-fn view_with(sheet: &[u8], h: Header, chosen: Chosen, proper: bool, receiving: u32, time: u32) -> View
+fn view_with(
+    sheet: &[u8],
+    h: Header,
+    chosen: Chosen,
+    proper: bool,
+    receiving: u32,
+    time: u32,
+) -> View
     requires { ⌜ receiving < layoutOf (now sheet) .interfaces ⌝ }
     requires { ⌜ RouteThere (layoutOf (now sheet) .interfaces) chosen ⌝ }
     ensures { λ v. ⌜ v ≡ viewWith (now (sheet .entry)) h chosen proper receiving time ⌝ }
@@ -143,7 +150,14 @@ fn view_with(sheet: &[u8], h: Header, chosen: Chosen, proper: bool, receiving: u
 }
 
 // There is room: the block is appended, and the message goes home or on.
-fn send_longer(message: &[u8], h: Header, blocks: usize, v: View, output: &mut [u8], note: &mut [u8]) -> u32
+fn send_longer(
+    message: &[u8],
+    h: Header,
+    blocks: usize,
+    v: View,
+    output: &mut [u8],
+    note: &mut [u8],
+) -> u32
     requires { ⌜ Roomy (now message) h blocks v (length (now output)) (length (now note)) ⌝ }
     ensures { λ r. ⌜ Written (longerAnswer (now (message .entry)) v) (now (output .entry)) (now (note .entry)) r (now (output .exit)) (now (note .exit)) ⌝ }
 {
@@ -163,7 +177,14 @@ fn send_longer(message: &[u8], h: Header, blocks: usize, v: View, output: &mut [
 }
 
 // There is no room: the message goes home with 0x81.
-fn send_full(message: &[u8], h: Header, last: usize, here: Interface, output: &mut [u8], note: &mut [u8]) -> u32
+fn send_full(
+    message: &[u8],
+    h: Header,
+    last: usize,
+    here: Interface,
+    output: &mut [u8],
+    note: &mut [u8],
+) -> u32
     requires { ⌜ Full (now message) h last (length (now output)) (length (now note)) ⌝ }
     ensures { λ r. ⌜ Written (home h (here .address) (fullMessage (now (message .entry)))) (now (output .entry)) (now (note .entry)) r (now (output .exit)) (now (note .exit)) ⌝ }
 {
@@ -173,10 +194,19 @@ fn send_full(message: &[u8], h: Header, last: usize, here: Interface, output: &m
 }
 
 // Answers a message that was accepted, and enters a Query.
-fn answer(message: &[u8], receiving: u32, time: u32, v: Verdict, sheet: &[u8], recent: &mut [u8], output: &mut [u8], note: &mut [u8]) -> u32
+fn answer(
+    message: &[u8],
+    receiving: u32,
+    time: u32,
+    v: Verdict,
+    sheet: &[u8],
+    recent: &mut [u8],
+    output: &mut [u8],
+    note: &mut [u8],
+) -> u32
     requires { ⌜ Ready (now message) receiving v (now sheet) (now recent) (length (now output)) (length (now note)) ⌝ }
     ensures { λ r. ⌜ outcome r (now (recent .exit)) (now (output .exit)) (now (note .exit))
-      ≡ answered (now (message .entry)) receiving time v (now (sheet .entry)) (now (recent .entry)) (now (output .entry)) (now (note .entry)) ⌝ }
+        ≡ answered (now (message .entry)) receiving time v (now (sheet .entry)) (now (recent .entry)) (now (output .entry)) (now (note .entry)) ⌝ }
 {
     let h = v.header;
     let blocks = v.blocks;
@@ -192,11 +222,30 @@ fn answer(message: &[u8], receiving: u32, time: u32, v: Verdict, sheet: &[u8], r
 
 // One router's step. The answer is the drop number, and nothing lent is changed; or 100 for a Request sent on, or 101 for a
 // Reply, with the message in `output` and its record in `note`.
-pub fn step(message: &[u8], destination: u32, receiving: u32, ttl: u32, time: u32, sheet: &[u8], recent: &mut [u8], output: &mut [u8], note: &mut [u8]) -> u32
+pub fn step(
+    message: &[u8],
+    destination: u32,
+    receiving: u32,
+    ttl: u32,
+    time: u32,
+    sheet: &[u8],
+    recent: &mut [u8],
+    output: &mut [u8],
+    note: &mut [u8],
+) -> u32
     ensures { λ r. ⌜ StepMeets (arrival (now (message .entry)) destination receiving ttl) time (now (sheet .entry)) (now (recent .entry)) (now (output .entry)) (now (note .entry))
-      (outcome r (now (recent .exit)) (now (output .exit)) (now (note .exit))) ⌝ }
+        (outcome r (now (recent .exit)) (now (output .exit)) (now (note .exit))) ⌝ }
 {
-    let v = drops::judge(message, destination, receiving, ttl, sheet, recent, output.len(), note.len());
+    let v = drops::judge(
+        message,
+        destination,
+        receiving,
+        ttl,
+        sheet,
+        recent,
+        output.len(),
+        note.len(),
+    );
     if v.number != 0 {
         return v.number;
     }

@@ -1,10 +1,8 @@
+-- `dropped`: the definition's record.
 use Rattle.drops.specs.Verdict.{dropped}
 use Rattle.drops.proofs.dropped.Statement.{statement}
 use Rattle.drops.proofs.dropped.Tie as tie
-use Rattle.drops.proofs.dropped.Reads as reads
-use Rattle.drops.proofs.dropped.Lts as lts
 
--- src/lib.rt:115:1
 returns : tie.Need-returns
 unfolding dropped
 returns c = search

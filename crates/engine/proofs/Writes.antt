@@ -1,0 +1,53 @@
+-- What is written into the lent bytes, step by step, is what the definitions say.
+use Prim.Native.Nat.{ℕ, _+_, _≤_, _<_}
+use mathlib.Core.List.{List, [], _∷_, _++_}
+use mathlib.Core.Path.{_≡_, refl, sym, ap, _∙_}
+use native.Mathlib.Omega.{arith}
+use native.Mathlib.Nat.{zero-add}
+use lib.ListN.{length, take, drop, set, length-set, length-append}
+use lib.Seq.{set-append-left}
+use borrow.Author.Tests.{eq-eqb, ne-eqb}
+use Rattle.wire.specs.Parts.{splice}
+use Rattle.wire.proofs.Laws.{length-splice, splice-front, splice-join}
+use Rattle.recent.specs.Entries.{enteredIn}
+use Rattle.response.specs.declared.Block.{Block}
+use Rattle.response.specs.declared.Note.{Note}
+use Rattle.response.specs.Bytes.{blockBytes, noteBytes}
+use Rattle.response.proofs.Laws.{block-length, note-length}
+use Rattle.message.specs.declared.Header.{Header}
+use Rattle.engine.specs.Answer.{longerMessage}
+use Rattle.engine.specs.Step.{recentAfter}
+
+-- a store within what was written at the front
+set-front : (o xs : List ℕ) (i v : ℕ) → i < length xs → set (splice o 0 xs) i v ≡ splice o 0 (set xs i v)
+set-front o xs i v h = rw (splice-front, splice-front) (simp (length-set, set-append-left))
+
+-- the message, its type and one byte more
+pub full-written : (m o o1 : List ℕ) (last : ℕ) → last + 52 ≤ length m → o1 ≡ splice o 0 m
+    → set (set o1 0 3) (last + 51) 129 ≡ splice o 0 (set (set m 0 3) (last + 51) 129)
+full-written m o o1 last h e =
+    rw (e, set-front o m 0 3 (omega arith)) (set-front o (set m 0 3) (last + 51) 129 (simp length-set (omega arith)))
+
+-- the message, its type, and a block behind it
+pub longer-written : (m o o1 o2 bytes : List ℕ) (kind : ℕ) (b : Block) → 0 < length m → length m + 52 ≤ length o → bytes ≡ blockBytes b
+    → o1 ≡ splice o 0 m → o2 ≡ splice (set o1 0 kind) (length m) bytes → o2 ≡ splice o 0 (longerMessage kind m b)
+unfolding longerMessage
+longer-written m o o1 o2 bytes kind b some room e f g =
+    let M : List ℕ = set m 0 kind in
+    let long : length M ≡ length m = length-set m 0 kind in
+    let at : length m ≡ 0 + length M = omega arith in
+    g
+    ∙ rw (e, f, set-front o m 0 kind some, ap (λ (n : ℕ). splice (splice o 0 M) n (blockBytes b)) at)
+    (splice-join o 0 M (omega arith) (blockBytes b))
+
+pub note-written : (n : Note) (o o1 bytes : List ℕ) → bytes ≡ noteBytes n → o1 ≡ splice o 0 bytes → o1 ≡ splice o 0 (noteBytes n)
+note-written n o o1 bytes e f = rw (f, e)
+
+-- a Query is entered, anything else is not
+pub query-entered : (h : Header) (r r1 : List ℕ) → h .kind ≡ 1 → r1 ≡ enteredIn r (h .client) (h .id) → r1 ≡ recentAfter h r
+unfolding recentAfter
+query-entered h r r1 q e = rw (eq-eqb (h .kind) 1 q) e
+
+pub request-kept : (h : Header) (r : List ℕ) → (h .kind ≡ 1 → ⊥) → r ≡ recentAfter h r
+unfolding recentAfter
+request-kept h r q = rw (ne-eqb (h .kind) 1 q)
