@@ -6,3 +6,6 @@ pub mod Traces
 pub mod Messages
 pub mod Laws
 pub mod Faithful
+pub mod Rows
+pub mod Refusals
+pub mod Determined

@@ -54,8 +54,11 @@ module _ (yard : List ℕ) (size : Bool) (told : size ≡ sizeOk (length yard)) 
   wrong-size e = rw (← told, not-true size e)
 
   module _ (right : not size ≡ false) where
-    pub yard-sized : Sized (length yard)
+    yard-sized : Sized (length yard)
     yard-sized = sized (length yard) (sym told ∙ not-false size right)
+
+    pub sheets-few : length yard / 1024 ≤ 32
+    sheets-few = yard-sized .few
 
     pub yard-checked : (ok : Bool) → ok ≡ every (validAt yard) (length yard / 1024) → ok ≡ yardOk yard
     unfolding yardOk

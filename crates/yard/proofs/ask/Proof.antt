@@ -1,3 +1,5 @@
+use Rattle.recent.specs.Entries.{empty}
+use Rattle.yard.proofs.Calls.{called}
 use borrow.Author.Needs.{needs}
 use Rattle.yard.proofs.ask.Statement.{statement}
 use Rattle.yard.proofs.ask.Tie as tie
@@ -45,7 +47,8 @@ same-length c = search needs
 
 -- src/lib.rt:105:1
 returns : tie.Need-returns
-returns c = ?
+unfolding empty
+returns c = search called
 
 pub ask-spec : {M : Type 1} → statement M
 ask-spec =

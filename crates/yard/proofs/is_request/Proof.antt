@@ -1,3 +1,4 @@
+use Rattle.yard.proofs.Rows.{no-first-byte}
 use borrow.Author.Needs.{needs}
 use Rattle.yard.proofs.is_request.Statement.{statement}
 use Rattle.yard.proofs.is_request.Tie as tie
@@ -6,7 +7,7 @@ use Rattle.yard.proofs.is_request.Lts as lts
 
 -- src/lib.rt:285:9
 returns : tie.Need-returns
-returns c = ?
+returns c = search no-first-byte
 
 -- src/lib.rt:287:5
 shared-slice-read-result : tie.Need-shared-slice-read-result
