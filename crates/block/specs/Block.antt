@@ -8,6 +8,7 @@ use Rattle.wire.specs.Numbers.{byteAt, be16}
 use Rattle.wire.specs.Parts.{part}
 use Rattle.block.specs.Sum.{sumOk}
 
+-- bytes of a block, where its entries begin, and where its switches stand
 abbrev pub blockSize : ℕ
 blockSize = 512
 

@@ -17,7 +17,7 @@ clockOf r y = record { r = r; y = y }
 abbrev pub issued : ℕ → ℕ → Tick
 issued r y = record { number = 0; clock = clockOf r y; time = y }
 
--- refused by a number: the clock comes back as it was given, with time 0
+-- refused by a number: a clock to go on with, and time 0
 abbrev pub refused : ℕ → Clock → Tick
 refused n c = record { number = n; clock = c; time = 0 }
 

@@ -51,12 +51,14 @@ abbrev pub noteHome : Header → ℕ → ℕ → Note
 noteHome h length source =
     record { length = length; destination = h .client; port = h .port; interface = anyInterface; source = source }
 
--- the record of a Request sent on: upstream or 224.0.0.2, 33435, the incoming interface and its address
+-- the record of a Request sent on: upstream or 224.0.0.2, 33435, the incoming interface and its address. Without a route nothing is
+-- sent on, so that the first line is met by no input
 abbrev pub noteOn : Chosen → Incoming → ℕ → Note
 noteOn Nothing incoming length = record { length = length; destination = 0; port = 0; interface = 0; source = 0 }
 noteOn (Found r) incoming length =
     record { length = length; destination = upstreamOf r; port = mtracePort; interface = r .incoming; source = addressOf incoming }
 
+-- a message sent home, and one sent on, with its record
 abbrev pub home : Header → ℕ → List ℕ → Sent
 home h source message = record { answer = sentHome; message = message; note = noteHome h (length message) source }
 
@@ -79,6 +81,7 @@ longerAnswer m v =
     let next = on v (longerMessage request m (blockOf v)) in
     cond (endsTrace v (standardCount m + 1) (h .hops)) last next
 
+-- what is sent: step 1 where there is no room, else steps 2 to 5
 unfoldable pub sentBy : Arrival → ℕ → List ℕ → Sent
 sentBy a time sheet =
     let m = a .message in

@@ -10,7 +10,7 @@ use Rattle.sheet.specs.Tables.{interfaceOf}
 use Rattle.response.specs.declared.View.{View}
 use Rattle.response.specs.Fill.{RouteFits}
 use Rattle.message.specs.declared.Header.{Header}
-use Rattle.message.specs.Format.{most, standardSize}
+use Rattle.message.specs.Format.{headerSize, most, standardSize}
 use Rattle.message.specs.Header.{headerOf}
 use Rattle.message.specs.Blocks.{standardCount, lastStandard}
 use Rattle.message.specs.Check.{blocksSeen}
@@ -45,7 +45,7 @@ pub record Full (m : List ℕ) (h : Header) (last : ℕ) (output note : ℕ) : T
 -- what an accepted message brings, once the drop table has been tried
 pub record Ready (m : List ℕ) (receiving : ℕ) (v : Verdict) (sheet recent : List ℕ) (output note : ℕ) : Type 0 where
   pub verdict : v ≡ taken (headerOf m) (blocksSeen m) sheet
-  pub low : 20 ≤ length m
+  pub low : headerSize ≤ length m
   pub high : length m ≤ most
   pub receives : receiving < layoutOf sheet .interfaces
   pub there : RouteThere (layoutOf sheet .interfaces) (v .chosen)

@@ -39,6 +39,7 @@ abbrev pub answeredBy : Sent → Header → List ℕ → List ℕ → List ℕ �
 answeredBy sent h recent output note =
     outcome (sent .answer) (recentAfter h recent) (splice output 0 (sent .message)) (splice note 0 (noteBytes (sent .note)))
 
+-- the outcome where nothing is dropped
 unfoldable pub accepted : Arrival → ℕ → List ℕ → List ℕ → List ℕ → List ℕ → Outcome
 accepted a time sheet recent output note = answeredBy (sentBy a time sheet) (headerOf (a .message)) recent output note
 

@@ -42,6 +42,7 @@ viewWith sheet h chosen proper receiving time =
       time = time;
     }
 
+-- the same of what arrived
 abbrev pub viewOf : Arrival → ℕ → List ℕ → View
 viewOf a time sheet =
     let h = headerOf (a .message) in

@@ -13,7 +13,6 @@ ghost use lib.ListN.{length, set};
 ghost use Rattle.wire.specs.Parts.{splice};
 ghost use Rattle.recent.specs.Layout.{Formed};
 ghost use Rattle.sheet.specs.Sheet.{layoutOf};
-ghost use Rattle.response.specs.View.{addressOf};
 ghost use Rattle.response.specs.Bytes.{blockBytes, noteBytes};
 ghost use Rattle.drops.specs.Arrival.{arrival};
 ghost use Rattle.engine.specs.View.{incomingFor, RouteThere, viewWith};
@@ -91,15 +90,6 @@ fn note_home(h: Header, length: usize, source: u32) -> Note
     }
 }
 
-fn address_of(i: Incoming) -> u32
-    ensures { λ a. ⌜ a ≡ addressOf i ⌝ }
-{
-    match i {
-        Incoming::Known(i) => i.address,
-        Incoming::Unknown => 0,
-    }
-}
-
 // The record of a Request sent on.
 fn note_on(chosen: Chosen, incoming: Incoming, length: usize) -> Note
     requires { ⌜ length ≤ 1472 ⌝ }
@@ -111,7 +101,7 @@ fn note_on(chosen: Chosen, incoming: Incoming, length: usize) -> Note
             destination: response::upstream(r),
             port: 33435,
             interface: r.incoming,
-            source: address_of(incoming),
+            source: response::address_of(incoming),
         },
         Chosen::Nothing => Note {
             length: length as u16,

@@ -7,6 +7,7 @@ use Rattle.wire.specs.Numbers.{byteAt, be32, be64}
 use Rattle.wire.specs.Addresses.{unicast}
 use Rattle.entry.specs.declared.interface.Interface.{Interface}
 
+-- bytes of an interface entry
 abbrev pub interfaceSize : ℕ
 interfaceSize = 24
 

@@ -3,7 +3,7 @@ use Prim.Native.Nat.{ℕ, _-_, _^_, _/_, _%_}
 use mathlib.Core.Bool.{Bool}
 use lib.Dec.{eqb}
 
--- how many addresses share a prefix of this length; those longer than 32 bits are not met in a valid sheet
+-- how many addresses share a prefix of this length; lengths over 32 are not met in a valid sheet
 unfoldable pub hosts : ℕ → ℕ
 hosts length = 2 ^ (32 - length)
 

@@ -8,6 +8,7 @@ use Rattle.wire.specs.Addresses.{unicast, multicast, allOnes}
 use Rattle.entry.specs.Prefix.{zeroPast}
 use Rattle.entry.specs.declared.route.Route.{Route}
 
+-- bytes of a route entry
 abbrev pub routeSize : ℕ
 routeSize = 56
 
@@ -58,6 +59,7 @@ unknown = 65535
 abbrev pub inMap : ℕ → ℕ → Bool
 inMap map i = eqb (map / 2 ^ i % 2) 1
 
+-- one of the three kinds
 abbrev pub kindOk : ℕ → Bool
 kindOk kind = leb sourceAndGroup kind && leb kind sourceOnly
 

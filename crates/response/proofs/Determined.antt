@@ -4,13 +4,17 @@ use mathlib.Core.Bool.{Bool}
 use mathlib.Core.List.{List}
 use mathlib.Core.Path.{_≡_}
 use Rattle.wire.proofs.Determined.{both-are}
-use Rattle.entry.specs.Route.{isRp}
 use Rattle.entry.specs.declared.route.Route.{Route}
+use Rattle.response.specs.declared.Incoming.{Incoming}
 use Rattle.response.specs.declared.View.{View}
 use Rattle.response.specs.declared.Block.{Block}
 use Rattle.response.specs.declared.Note.{Note}
+use Rattle.response.specs.View.{addressOf}
 use Rattle.response.specs.Fill.{upstreamOf, blockOf, endsTrace}
 use Rattle.response.specs.Bytes.{blockBytes, noteBytes}
+
+pub address-of-determined : (i : Incoming) (a b : ℕ) → a ≡ addressOf i → b ≡ addressOf i → a ≡ b
+address-of-determined i a b = both-are
 
 pub upstream-determined : (r : Route) (a b : ℕ) → a ≡ upstreamOf r → b ≡ upstreamOf r → a ≡ b
 upstream-determined r a b = both-are

@@ -15,7 +15,7 @@ use Rattle.response.specs.declared.View.{View}
 use Rattle.response.specs.declared.Tests.{Tests}
 use Rattle.response.specs.declared.Block.{Block}
 use Rattle.response.specs.declared.Note.{Note}
-use Rattle.response.specs.Code.{wrongLastHop, testsFor, testsOf, codeOf}
+use Rattle.response.specs.Code.{wrongLastHopCode, reachedRp, noRoute, adminProhib, noMulticast, rpfIf, wrongIf, scopedCode, pruneSentCode, pruneRcvd, notForwarding, wrongLastHop, testsFor, testsOf, codeOf}
 use Rattle.response.specs.Fill.{endsFor, endsTrace}
 use Rattle.response.specs.Bytes.{blockBytes, noteBytes}
 
@@ -31,17 +31,17 @@ result applies code = record { applies = applies; code = code }
 -- WRONG_IF, SCOPED, PRUNE_SENT, PRUNE_RCVD, NOT_FORWARDING
 abbrev pub results : Tests → List Result
 results t =
-    result (t .wronghop) 6
-    ∷ result (t .rp) 8
-    ∷ result (t .noroute) 5
-    ∷ result (t .prohibited) 131
-    ∷ result (t .nomulticast) 10
-    ∷ result (t .rpf) 9
-    ∷ result (t .wrongif) 1
-    ∷ result (t .scoped) 4
-    ∷ result (t .prunesent) 2
-    ∷ result (t .pruned) 3
-    ∷ result (t .stopped) 7
+    result (t .wronghop) wrongLastHopCode
+    ∷ result (t .rp) reachedRp
+    ∷ result (t .noroute) noRoute
+    ∷ result (t .prohibited) adminProhib
+    ∷ result (t .nomulticast) noMulticast
+    ∷ result (t .rpf) rpfIf
+    ∷ result (t .wrongif) wrongIf
+    ∷ result (t .scoped) scopedCode
+    ∷ result (t .prunesent) pruneSentCode
+    ∷ result (t .pruned) pruneRcvd
+    ∷ result (t .stopped) notForwarding
     ∷ []
 
 -- none of some results applies

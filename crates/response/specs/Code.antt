@@ -11,6 +11,43 @@ use Rattle.response.specs.declared.View.{View}
 use Rattle.response.specs.declared.Tests.{Tests}
 use Rattle.response.specs.View.{boundaryOn}
 
+-- the codes, by their names in RFC 8487
+abbrev pub noError : ℕ
+noError = 0
+
+abbrev pub wrongIf : ℕ
+wrongIf = 1
+
+abbrev pub pruneSentCode : ℕ
+pruneSentCode = 2
+
+abbrev pub pruneRcvd : ℕ
+pruneRcvd = 3
+
+abbrev pub scopedCode : ℕ
+scopedCode = 4
+
+abbrev pub noRoute : ℕ
+noRoute = 5
+
+abbrev pub wrongLastHopCode : ℕ
+wrongLastHopCode = 6
+
+abbrev pub notForwarding : ℕ
+notForwarding = 7
+
+abbrev pub reachedRp : ℕ
+reachedRp = 8
+
+abbrev pub rpfIf : ℕ
+rpfIf = 9
+
+abbrev pub noMulticast : ℕ
+noMulticast = 10
+
+abbrev pub adminProhib : ℕ
+adminProhib = 131
+
 -- a Query, and this is not the proper last hop
 abbrev pub wrongLastHop : View → Bool
 wrongLastHop v = v .query && not (v .proper)
@@ -50,21 +87,22 @@ testsFor v (Found r) =
       stopped = inMap (r .stopped) (v .number);
     }
 
+-- the results of the tests, in what a router looks at
 unfoldable pub testsOf : View → Tests
 testsOf v = testsFor v (v .chosen)
 
 -- each code is noted only if none is noted yet
 unfoldable pub codeOf : Tests → ℕ
 codeOf t =
-    cond (t .wronghop) 6
-    (cond (t .rp) 8
-    (cond (t .noroute) 5
-    (cond (t .prohibited) 131
-    (cond (t .nomulticast) 10
-    (cond (t .rpf) 9
-    (cond (t .wrongif) 1
-    (cond (t .scoped) 4
-    (cond (t .prunesent) 2
-    (cond (t .pruned) 3
-    (cond (t .stopped) 7
-    0))))))))))
+    cond (t .wronghop) wrongLastHopCode
+    (cond (t .rp) reachedRp
+    (cond (t .noroute) noRoute
+    (cond (t .prohibited) adminProhib
+    (cond (t .nomulticast) noMulticast
+    (cond (t .rpf) rpfIf
+    (cond (t .wrongif) wrongIf
+    (cond (t .scoped) scopedCode
+    (cond (t .prunesent) pruneSentCode
+    (cond (t .pruned) pruneRcvd
+    (cond (t .stopped) notForwarding
+    noError))))))))))

@@ -11,7 +11,7 @@ use Rattle.response.specs.declared.View.{View}
 use Rattle.response.specs.declared.Incoming.{Incoming}
 use Rattle.response.specs.declared.Filled.{Filled}
 use Rattle.response.specs.declared.Block.{Block}
-use Rattle.response.specs.View.{addressOf, inputOf}
+use Rattle.response.specs.View.{notCounted, addressOf, inputOf}
 use Rattle.response.specs.Code.{testsOf, codeOf}
 
 -- 224.0.0.2, all routers of the link: where upstream is not known
@@ -24,7 +24,7 @@ upstreamOf r = cond (allOnes (r .upstream)) allRouters (r .upstream)
 
 -- the packets counted by the route; all ones for kind 3
 abbrev pub totalOf : Route → ℕ
-totalOf r = cond (eqb (r .kind) sourceOnly) 18446744073709551615 (r .packets)
+totalOf r = cond (eqb (r .kind) sourceOnly) notCounted (r .packets)
 
 -- the source length; 127 for kind 2
 abbrev pub maskOf : Route → ℕ
@@ -47,6 +47,7 @@ filledOf r i =
       mask = cond (sOf r) (128 + maskOf r) (maskOf r);
     }
 
+-- all of it 0
 abbrev pub unfilled : Filled
 unfilled = record { incoming = 0; upstream = 0; input = 0; total = 0; protocol = 0; multicast = 0; mask = 0 }
 
@@ -77,5 +78,6 @@ abbrev pub endsFor : Bool → ℕ → ℕ → Chosen → Bool
 endsFor prohibited blocks hops Nothing = true
 endsFor prohibited blocks hops (Found r) = prohibited || isRp r || eqb (r .upstream) 0 || eqb blocks hops
 
+-- by the route that the router chose
 unfoldable pub endsTrace : View → ℕ → ℕ → Bool
 endsTrace v blocks hops = endsFor (v .prohibited) blocks hops (v .chosen)

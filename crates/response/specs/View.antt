@@ -1,4 +1,4 @@
--- What a router looks at when it answers: the route chosen for the message, the interfaces it names, and what was asked.
+-- The incoming interface of the route chosen, as the tests and the block read it.
 use Prim.Native.Nat.{ℕ}
 use mathlib.Core.Bool.{Bool, true, false}
 use Rattle.entry.specs.Interface.{isBoundary}
@@ -16,7 +16,11 @@ abbrev pub addressOf : Incoming → ℕ
 addressOf (Known i) = i .address
 addressOf Unknown = 0
 
+-- all ones in a count of 64 bits: not counted
+abbrev pub notCounted : ℕ
+notCounted = 18446744073709551615
+
 -- its input count, all ones if unknown
 abbrev pub inputOf : Incoming → ℕ
 inputOf (Known i) = i .input
-inputOf Unknown = 18446744073709551615
+inputOf Unknown = notCounted

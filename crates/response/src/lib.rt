@@ -204,7 +204,8 @@ fn first_code(t: Tests) -> u8
     0
 }
 
-fn address_of(i: Incoming) -> u32
+// The address of the incoming interface, 0 if unknown.
+pub fn address_of(i: Incoming) -> u32
     ensures { λ r. ⌜ r ≡ addressOf i ⌝ }
 {
     match i {

@@ -2,4 +2,5 @@
 pub mod Ranks
 pub mod Turns
 pub mod Laws
+pub mod Longest
 pub mod Determined

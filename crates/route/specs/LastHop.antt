@@ -19,6 +19,7 @@ unfoldable pub someReaches : (ℕ → Interface) → Route → ℕ → ℕ → B
 someReaches interface r client zero = false
 someReaches interface r client (suc n) = cond (reaches r client n (interface n)) true (someReaches interface r client n)
 
+-- by the route chosen, where the router has so many interfaces
 unfoldable pub properLastHop : (ℕ → Interface) → ℕ → Chosen → ℕ → Bool
 properLastHop interface n Nothing client = false
 properLastHop interface n (Found r) client = isRp r || someReaches interface r client n

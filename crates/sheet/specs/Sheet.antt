@@ -13,6 +13,7 @@ use Rattle.sheet.specs.Every.{every}
 use Rattle.sheet.specs.Rules.{interfaceKind, routeKind, interfaceRight, routeRight, blockOk}
 use Rattle.sheet.specs.declared.layout.Layout.{Layout}
 
+-- the most blocks of a sheet, and the most interfaces
 abbrev pub mostBlocks : ℕ
 mostBlocks = 16
 
