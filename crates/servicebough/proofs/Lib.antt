@@ -1,0 +1,3 @@
+-- Laws of the entries' promises.
+pub mod Rows
+pub mod Determined
