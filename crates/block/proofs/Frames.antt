@@ -1,7 +1,7 @@
 -- The frame of a block by the plain sums of its words; and what a frame that is kept says.
 use Prim.Native.Nat.{ℕ, _+_, _*_, _/_, _%_, _-_, _≤_, _<_}
 use mathlib.Core.Bool.{Bool, true, false, _&&_, _||_, and-false}
-use mathlib.Core.Path.{_≡_, refl, sym, ap, _∙_}
+use mathlib.Core.Path.{_≡_, refl, ap, _∙_}
 use mathlib.Core.List.{List}
 use native.Mathlib.Omega.{arith}
 use native.Mathlib.Nat.{le-div-iff-mul-le}
@@ -12,8 +12,9 @@ use Rattle.wire.specs.Numbers.{byteAt, be16, be32}
 use Rattle.block.specs.Sum.{sumOk}
 use Rattle.block.specs.Block.{kindOf, usedIn, numberOf, entriesEach, unusedOf, zeros, filledOk, frameOk}
 use Rattle.block.specs.Words.{words}
-use Rattle.block.proofs.Flags.{both-of}
-use Rattle.block.proofs.Sums.{sum-plain, zeros-plain}
+use Rattle.wire.proofs.Flags.{both-of}
+use Rattle.block.proofs.Sums.{sum-plain}
+use Rattle.block.proofs.Unused.{zeros-plain}
 
 -- entries in use fit between the head and the switches
 pub room : (size used : ℕ) → 0 < size → used ≤ 504 / size → size * used ≤ 504

@@ -1,5 +1,5 @@
 -- Laws that this crate's proofs and the crates above cite.
-pub mod Flags
 pub mod Sums
+pub mod Unused
 pub mod Frames
 pub mod Determined

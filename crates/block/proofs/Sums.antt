@@ -1,23 +1,20 @@
--- The plain sum of the 32-bit words, joined to what the definitions say: the sum of RFC 1071, and unused bytes that are zero.
+-- The plain sum of the 32-bit words, joined to the sum of RFC 1071: end-around carry takes multiples of 65535 away.
 use Prim.Native.Nat.{ℕ, zero, suc, _+_, _*_, _/_, _%_, _-_, _≤_, _<_}
-use mathlib.Core.Bool.{Bool, true, false, _&&_}
-use mathlib.Core.Path.{_≡_, refl, sym, ap, _∙_}
-use mathlib.Core.List.{List, [], _∷_}
+use mathlib.Core.Bool.{_&&_}
+use mathlib.Core.Path.{_≡_, refl, ap, _∙_}
+use mathlib.Core.List.{List, _∷_}
 use native.Mathlib.Omega.{arith}
-use native.Mathlib.Numerals.{add-one, add-two, add-three, add-four}
-use native.Mathlib.Nat.{add-zero, zero-add}
-use lib.Dec.{leb, ltb, eqb}
-use lib.ListN.{length, getD, take, drop, drop-of-length-le}
+use native.Mathlib.Numerals.{add-one, add-two, add-four}
+use lib.Dec.{ltb, eqb}
+use lib.ListN.{length, drop, drop-of-length-le}
 use lib.Seq.{drop-cons}
-use borrow.Author.Tests.{eqb-true, eq-eqb, ne-eqb, ltb-true, lt-ltb}
+use borrow.Author.Tests.{eqb-true, eq-eqb, ltb-true, lt-ltb}
 use Rattle.wire.specs.Numbers.{byteAt, be, be32}
-use Rattle.wire.specs.Parts.{part}
 use Rattle.block.specs.Sum.{carried, sumFrom, sumOk}
-use Rattle.block.specs.Block.{zeros}
 use Rattle.block.specs.Words.{words}
-use Rattle.block.proofs.Flags.{same-flag, both-true, both-of}
+use Rattle.wire.proofs.Flags.{same-flag, both-true, both-of}
 
--- one word more
+-- the loop: one word more, and all of them
 pub words-more : (b : List ℕ) (sum from i x : ℕ) → sum + words b from ≡ words b i → x ≡ be32 b (4 * i) → sum + x + words b from ≡ words b (i + 1)
 unfolding words
 words-more b sum from i x e f = rw (add-one, ← e, f) (omega arith)
@@ -26,17 +23,17 @@ pub words-all : (b : List ℕ) (sum from i to : ℕ) → sum + words b from ≡ 
 words-all b sum from i to e h k = let q : i ≡ to = omega arith in e ∙ ap (words b) q
 
 -- four bytes at the front of what is left, and the word that they are
-four : (b : List ℕ) (at : ℕ) → at + 4 ≤ length b
+pub four : (b : List ℕ) (at : ℕ) → at + 4 ≤ length b
     → drop at b ≡ byteAt b at ∷ byteAt b (at + 1) ∷ byteAt b (at + 2) ∷ byteAt b (at + 2 + 1) ∷ drop (at + 4) b
 four b at h =
     rw (drop-cons b at 0 (omega arith), drop-cons b (suc at) 0 (omega arith), drop-cons b (suc (suc at)) 0 (omega arith), drop-cons b (suc (suc (suc at))) 0 (omega arith))
     (simp (add-one, add-two, add-four))
 
-word : (b : List ℕ) (at : ℕ) → be32 b at ≡ (byteAt b at * 256 + byteAt b (at + 1)) * 65536 + (byteAt b (at + 2) * 256 + byteAt b (at + 2 + 1))
+pub word : (b : List ℕ) (at : ℕ) → be32 b at ≡ (byteAt b at * 256 + byteAt b (at + 1)) * 65536 + (byteAt b (at + 2) * 256 + byteAt b (at + 2 + 1))
 unfolding be
 word b at = refl
 
--- end-around carry takes away multiples of 65535, and comes to 0 from 0 alone
+-- a sum with end-around carry beside the plain one: multiples of 65535 are gone, and it is 0 only where the plain one is
 record Folded (sum plain : ℕ) : Type 0 where
   times : ℕ
   is : plain ≡ sum + 65535 * times
@@ -64,6 +61,7 @@ folded-word sum plain high low f h l =
     let g = folded-more (carried (sum + high)) (plain + high) low (folded-more sum plain high f h) l in
     record { times = g .times + high; is = omega (arith, g .is); most = g .most; some = λ k. g .some (omega arith) }
 
+-- so it is 0xFFFF where the plain one is a multiple of 65535, and not 0
 folded-test : (sum plain : ℕ) → Folded sum plain → eqb sum 65535 ≡ ltb 0 plain && eqb (plain % 65535) 0
 folded-test sum plain f =
     same-flag (eqb sum 65535) (ltb 0 plain && eqb (plain % 65535) 0)
@@ -109,50 +107,3 @@ module _ (b : List ℕ) (bytes : (i : ℕ) → byteAt b i < 256) where
   sum-plain w long e =
       let p = summed 128 (omega arith) in
       rw (p .along, drop-of-length-le b {i = 512} (omega arith), e) (folded-test (p .sum) (words b 128) (p .folded))
-
--- a sum by weights is 0 where its terms are
-weighed : (k x y : ℕ) → 0 < k → eqb (k * x + y) 0 ≡ eqb x 0 && eqb y 0
-weighed k zero y h = let e : k * 0 + y ≡ y = omega arith in rw e
-weighed k (suc x) y h = ne-eqb (k * suc x + y) 0 (λ e. omega arith) ∙ rw (ne-eqb (suc x) 0 (λ e. omega arith))
-
--- the plain sum of n words, taken from the front
-span : List ℕ → ℕ → ℕ → ℕ
-span b from zero = 0
-span b from (suc n) = be32 b (4 * from) + span b (suc from) n
-
-span-words : (b : List ℕ) (n from : ℕ) → span b from n + words b from ≡ words b (from + n)
-unfolding span words
-span-words b zero from = simp (add-zero, zero-add)
-span-words b (suc n) from = let e : from + suc n ≡ suc from + n = omega arith in rw e (omega (arith, span-words b n (suc from)))
-
--- it is 0 where every byte there is zero
-span-zeros : (b : List ℕ) (n from : ℕ) → 4 * (from + n) ≤ length b → eqb (span b from n) 0 ≡ zeros (take (4 * n) (drop (4 * from) b))
-unfolding span zeros
-span-zeros b zero from h = refl
-span-zeros b (suc n) from h =
-    let at : ℕ = 4 * from in
-    let y : ℕ = span b (suc from) n in
-    let bytes : 4 * suc n ≡ suc (suc (suc (suc (4 * n)))) = omega arith in
-    let next : at + 4 ≡ 4 * suc from = omega arith in
-    let split : be32 b at + y ≡ 16777216 * byteAt b at + (65536 * byteAt b (at + 1) + (256 * byteAt b (at + 2) + (1 * byteAt b (at + 2 + 1) + y))) = omega (arith, word b at) in
-    rw (
-      bytes,
-      four b at (omega arith),
-      next,
-      split,
-      weighed 16777216 (byteAt b at) _ (omega arith),
-      weighed 65536 (byteAt b (at + 1)) _ (omega arith),
-      weighed 256 (byteAt b (at + 2)) _ (omega arith),
-      weighed 1 (byteAt b (at + 2 + 1)) y (omega arith),
-      ← span-zeros b n (suc from) (omega arith),
-    )
-
--- a sum of words up to word 127 is 0 where the bytes up to the switches are zero
-pub zeros-plain : (b : List ℕ) (from sum : ℕ) → length b ≡ 512 → from ≤ 127 → sum + words b from ≡ words b 127
-    → eqb sum 0 ≡ zeros (part (4 * from) (508 - 4 * from) b)
-zeros-plain b from sum long h e =
-    let n : ℕ = 127 - from in
-    let end : 127 ≡ from + n = omega arith in
-    let bytes : 508 - 4 * from ≡ 4 * n = omega arith in
-    let s : sum ≡ span b from n = omega (arith, span-words b n from, ap (words b) end) in
-    rw (bytes, s) (span-zeros b n from (omega arith))

@@ -30,7 +30,7 @@ numberOf b = be16 b 2
 abbrev pub switchesOf : List ℕ → ℕ
 switchesOf b = be16 b switchesAt
 
--- how many entries of a size a block has room for
+-- how many entries of a size a block has room for: 21 interfaces of 24 bytes, 9 routes of 56
 abbrev pub entriesEach : ℕ → ℕ
 entriesEach size = (switchesAt - entriesAt) / size
 
@@ -47,12 +47,12 @@ unfoldable pub zeros : List ℕ → Bool
 zeros [] = true
 zeros (x ∷ xs) = eqb x 0 && zeros xs
 
--- the entries in use of a block with room for `each`: none is empty, and it is partly filled only where it may be
+-- entries in use, where there is room for `each`: no block is empty, and only some may be partly filled
 abbrev pub filledOk : ℕ → Bool → ℕ → Bool
 filledOk each partly used = leb 1 used && leb used each && (partly || eqb used each)
 
--- what a block of a kind, with entries of a size, keeps whatever its entries say: kind, entries in use, number, unused entry
--- bytes zero, sum
+-- what a block of a kind, with entries of a size and with its number, keeps whatever its entries say: kind, entries in use,
+-- number, unused entry bytes zero, sum; `partly` where it may be partly filled
 unfoldable pub frameOk : ℕ → ℕ → ℕ → Bool → List ℕ → Bool
 frameOk kind size number partly b =
     eqb (kindOf b) kind && filledOk (entriesEach size) partly (usedIn b) && eqb (numberOf b) number && zeros (unusedOf size b) && sumOk b

@@ -34,6 +34,7 @@ fn end_of(size: usize, used: usize) -> usize
     1 + size * used / 4
 }
 
+// Whether so many entries may be in use where there is room for `each`.
 fn filled_ok(each: usize, partly: bool, used: usize) -> bool
     ensures { λ r. ⌜ r ≡ filledOk each partly used ⌝ }
 {

@@ -1,2 +1,3 @@
 -- Laws that this crate's proofs and the crates above cite.
 pub mod Rows
+pub mod Determined

@@ -2,3 +2,7 @@
 pub mod Rows
 pub mod Writes
 pub mod Steps
+pub mod LawsDrop
+pub mod LawsSent
+pub mod LawsOn
+pub mod Determined

@@ -33,6 +33,7 @@ use Rattle.drops.specs.Arrival.{isQuery}
 use Rattle.engine.specs.View.{incomingFor, RouteThere, viewWith}
 use Rattle.engine.specs.Answer.{Sent, noteHome, noteOn, home, on, fullMessage, longerMessage, longerAnswer}
 use Rattle.engine.specs.Step.{Written}
+use Rattle.engine.proofs.LawsSent.{longer-length}
 use Rattle.engine.specs.Ready.{Roomy, Full}
 
 -- the incoming interface, by the route chosen
@@ -83,10 +84,6 @@ pub view-made : (s : List ℕ) (h : Header) (chosen : Chosen) (proper : Bool) (r
     ≡ viewWith s h chosen proper receiving time
 unfolding viewWith
 view-made s h chosen proper receiving time incoming prohibited here e f g = rw (e, f, g)
-
-longer-length : (kind : ℕ) (m : List ℕ) (b : Block) → length (longerMessage kind m b) ≡ length m + 52
-unfolding longerMessage
-longer-length kind m b = simp (length-append, length-set, block-length)
 
 -- a message without room
 pub full-sent : (m : List ℕ) (h : Header) (last : ℕ) (here : Interface) (o n o1 n1 : List ℕ) (k : Note) → h ≡ headerOf m → last ≡ lastStandard m

@@ -38,6 +38,7 @@ use Rattle.drops.specs.Verdict.{dropped, taken, verdictOf}
 use Rattle.engine.specs.View.{RouteThere, viewWith, viewOf}
 use Rattle.engine.specs.Answer.{Sent, home, fullMessage, longerAnswer, sentBy}
 use Rattle.engine.specs.Step.{Outcome, outcome, recentAfter, Written, accepted, stepOf, StepMeets}
+use Rattle.engine.proofs.LawsDrop.{Taken, taken as taken-rows}
 use Rattle.engine.specs.Ready.{Roomy, Full, Ready, answered}
 
 -- the outcome of what is written, as a message without room and as one with room
@@ -95,12 +96,6 @@ module _ (m : List ℕ) (receiving : ℕ) (v : Verdict) (s r : List ℕ) (o n : 
         note-room = ready .note-room;
       }
 
--- both of two numbers are 0 where the first that is not is none
-or-zero : (n k : ℕ) → orElse n k ≡ 0 → (n ≡ 0) × (k ≡ 0)
-or-zero n k e =
-    ⊎-elim (λ t. let z : n ≡ 0 = eqb-true n 0 t in (z, rw t at e)) (λ f. let z : n ≡ 0 = rw f at e in absurd (eqb-false n 0 f z))
-    (decided (eqb n 0))
-
 -- the route for a message names an interface of the sheet, and its length fits
 module _ (s : List ℕ) (h : Header) where
   route-there : (w : Chosen) → routeFor s h ≡ w → RouteThere (layoutOf s .interfaces) w
@@ -120,35 +115,6 @@ unfolding verdictOf taken dropped
 verdict-number a s r o n =
     ⊎-elim (λ e. rw e (sym (eqb-true (dropOf a s r o n) 0 e))) (λ e. rw e) (decided (eqb (dropOf a s r o n) 0))
 
--- what the rows that do not apply say
-pub record Passed (a : Arrival) (s r : List ℕ) (o n : ℕ) : Type 0 where
-  pub output-room : most ≤ o
-  pub note-room : noteSize ≤ n
-  pub formed : Formed r
-  pub receives : a .receiving < layoutOf s .interfaces
-  pub message : Accepted (a .message)
-  pub delivery : deliveryRow s r (headerOf (a .message)) (standardCount (a .message)) (a .destination) (a .ttl) ≡ 0
-
-pub drop-passed : (a : Arrival) (s r : List ℕ) (o n : ℕ) → dropOf a s r o n ≡ 0 → Passed a s r o n
-unfolding dropOf lendingRow
-drop-passed a s r o n e =
-    let p = or-zero (lendingRow o n r (layoutOf s) (a .receiving)) _ e in
-    let q = or-zero (numberOf (a .message)) _ (p .1) in
-    let d = or-zero (deliveryRow s r (headerOf (a .message)) (standardCount (a .message)) (a .destination) (a .ttl)) _ (q .1) in
-    let p1 = passed (ltb o most) 0 _ (p .0) in
-    let p2 = passed (ltb n noteSize) 0 _ (p1 .1) in
-    let p3 = passed (not (wellFormed r)) 1 _ (p2 .1) in
-    let p4 = passed (not (layoutOf s .valid)) 2 _ (p3 .1) in
-    let p5 = passed (leb (layoutOf s .interfaces) (a .receiving)) 3 _ (p4 .1) in
-    record {
-      output-room = ltb-false o most (p1 .0);
-      note-room = ltb-false n noteSize (p2 .0);
-      formed = formed r (not-false (wellFormed r) (p3 .0));
-      receives = leb-false (layoutOf s .interfaces) (a .receiving) (p5 .0);
-      message = none-applies (a .message) (q .0);
-      delivery = d .0;
-    }
-
 module _ (m : List ℕ) (destination receiving ttl : ℕ) (s r : List ℕ) (o n : ℕ) (v : Verdict) (told : v ≡ verdictOf (arrival m destination receiving ttl) s r o n)
     (none : v .number ≡ 0) where
   no-drop : dropOf (arrival m destination receiving ttl) s r o n ≡ 0
@@ -165,19 +131,19 @@ module _ (m : List ℕ) (destination receiving ttl : ℕ) (s r : List ℕ) (o n 
   -- an accepted message brings what the answer needs
   pub step-ready : Ready m receiving v s r o n
   step-ready =
-      let passed-all = drop-passed (arrival m destination receiving ttl) s r o n no-drop in
-      let right = passed-all .message in
+      let arrived = taken-rows (arrival m destination receiving ttl) s r o n no-drop in
+      let right = arrived .message in
       record {
         verdict = is-taken;
         low = right .low;
         high = right .high;
-        receives = passed-all .receives;
+        receives = arrived .receives;
         there = rw chosen-is (route-there s (headerOf m) (routeFor s (headerOf m)) refl);
         fits = rw chosen-is (route-fits s (headerOf m) (routeFor s (headerOf m)) refl);
-        formed = passed-all .formed;
+        formed = formed r (arrived .recent-formed);
         last = λ full. last-high m (right .low) (full-has-standard m right full);
-        output-room = passed-all .output-room;
-        note-room = passed-all .note-room;
+        output-room = arrived .output-room;
+        note-room = arrived .note-room;
       }
 
 -- the two ways through the step

@@ -16,17 +16,27 @@ use Rattle.entry.specs.Route.{groupOnly, unknown, kindOk, lengthOk, flag
 
 pub record InterfaceKept (i : Interface) : Type 0 where
   pub address : unicast (i .address) ≡ true
+  pub some : 1 ≤ i .length
   pub short : i .length ≤ 32
 
 pub interface-kept : (i : Interface) → interfaceOk i ≡ true → InterfaceKept i
 unfolding interfaceOk
-interface-kept i e = record { address = search parts depth 16; short = leb-true (i .length) 32 (search parts depth 16) }
+interface-kept i e =
+    record {
+      address = search parts depth 16;
+      some = leb-true 1 (i .length) (search parts depth 16);
+      short = leb-true (i .length) 32 (search parts depth 16);
+    }
 
 pub record RouteKept (interfaces : ℕ) (r : Route) : Type 0 where
+  pub kind : kindOk (r .kind) ≡ true
   pub short : r .length ≤ 32
   pub whole : r .kind ≡ groupOnly → r .length ≡ 0
+  pub source : zeroPast (r .length) (r .source) ≡ true
+  pub group : groupOk (r .kind) (r .group) ≡ true
   pub incoming : (r .incoming < interfaces) ⊎ (r .incoming ≡ unknown)
   pub upstream : (r .upstream ≡ 0) ⊎ ((r .incoming ≡ unknown → ⊥) × ((unicast (r .upstream) ≡ true) ⊎ (allOnes (r .upstream) ≡ true)))
+  pub forward : mapOk interfaces (r .forward) ≡ true
 
 pub route-kept : (interfaces : ℕ) (r : Route) → routeOk interfaces r ≡ true → RouteKept interfaces r
 unfolding routeOk
@@ -35,6 +45,10 @@ route-kept interfaces r e =
     let incoming : incomingOk interfaces (r .incoming) ≡ true = search parts depth 16 in
     let upstream : upstreamOk (r .incoming) (r .upstream) ≡ true = search parts depth 16 in
     record {
+      kind = search parts depth 16;
+      source = search parts depth 16;
+      group = search parts depth 16;
+      forward = search parts depth 16;
       short = leb-true (r .length) 32 (search parts depth 16);
       whole =
           λ k.

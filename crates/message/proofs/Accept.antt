@@ -17,7 +17,7 @@ use Rattle.message.specs.Format.{headerSize, most, query, request, stand
 use Rattle.message.specs.Header.{headerOf, queryOrRequest, rightLength, rightGroup, rightSource, namesNothing, rightClient}
 use Rattle.message.specs.Blocks.{Block, blocksOf, standardPlaces, standards, standardCount, lastStandard, fillsMessage, standardFirst, requestForm, rightForm}
 use Rattle.message.specs.Check.{wrongSize, firstRow, numberOf, blocksSeen, refused, accepted, checkOf}
-use Rattle.message.proofs.Cut.{decided, both, one-of}
+use Rattle.wire.proofs.Flags.{neither-of, decided, both-of, one-of}
 use Rattle.message.proofs.Turns.{standard-more}
 use Rattle.message.proofs.Append.{query-alone, request-formed}
 
@@ -40,10 +40,6 @@ pub record Accepted (s : List ℕ) : Type 0 where
   pub port : 0 < headerOf s .port
   pub form : rightForm s ≡ true
 
-neither : (a b : Bool) → (a || b) ≡ false → (a ≡ false) × (b ≡ false)
-neither true b e = let z : _≡_ {A = ℕ} 0 1 = cc in absurd (omega arith)
-neither false b e = (refl, e)
-
 positive : (n : ℕ) → (n ≡ 0 → ⊥) → 0 < n
 positive zero h = absurd (h refl)
 positive (suc n) h = omega arith
@@ -62,8 +58,8 @@ none-applies s e =
     let p11 = passed (namesNothing h) 10 _ (p10 .1) in
     let p12 = passed (not (rightClient h)) 11 _ (p11 .1) in
     let p13 = passed (not (rightForm s)) 12 _ (p12 .1) in
-    let size = neither (ltb (length s) headerSize) _ (p5 .0) in
-    let client = both (unicast (h .client)) _ (not-false (rightClient h) (p12 .0)) in
+    let size = neither-of (ltb (length s) headerSize) _ (p5 .0) in
+    let client = both-of (unicast (h .client)) _ (not-false (rightClient h) (p12 .0)) in
     record {
       low = ltb-false _ _ (size .0);
       high = ltb-false _ _ (size .1);
@@ -141,7 +137,7 @@ first-counted (x ∷ blocks) e = rw (standard-more x blocks e) (omega arith)
 
 pub request-has-standard : (s : List ℕ) → requestForm s ≡ true → 0 < standardCount s
 unfolding standards
-request-has-standard s e = first-counted (blocksOf s) (both (fillsMessage s) _ e .1)
+request-has-standard s e = first-counted (blocksOf s) (both-of (fillsMessage s) _ e .1)
 
 module _ (s : List ℕ) (a : Accepted s) where
   pub accepted-kinds : (headerOf s .kind ≡ query) ⊎ (headerOf s .kind ≡ request)

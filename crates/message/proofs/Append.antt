@@ -16,7 +16,8 @@ use Rattle.wire.proofs.Laws.{be-first}
 use Rattle.message.specs.Format.{headerSize, query, standard, standardSize}
 use Rattle.message.specs.Header.{headerOf}
 use Rattle.message.specs.Blocks.{Block, begins, rightSize, fitsIn, blocksFrom, blocksOf, totalSize, standardPlaces, lastOr, standards, standardCount, standardAt, lastStandard, blocksEnd, standardFirst, fillsMessage, requestForm, rightForm, StandardBlock}
-use Rattle.message.proofs.Cut.{decided, both, begun, too-short, no-blocks, block-first, by-blocks}
+use Rattle.wire.proofs.Flags.{decided, both-of}
+use Rattle.message.proofs.Cut.{begun, too-short, no-blocks, block-first, by-blocks}
 use Rattle.message.proofs.Turns.{standard-more, standard-same}
 use Rattle.message.proofs.Fields.{same-header}
 use Rattle.message.proofs.Rows.{header-alone}
@@ -26,7 +27,7 @@ begins-still : (rest more : List ℕ) → begins rest ≡ true → begins (rest 
 unfolding begins fitsIn
 begins-still rest more e =
     let b = begun rest e in
-    let right : rightSize (byteAt rest 0) (be16 rest 1) ≡ true = both (rightSize (byteAt rest 0) (be16 rest 1)) _ e .0 in
+    let right : rightSize (byteAt rest 0) (be16 rest 1) ≡ true = both-of (rightSize (byteAt rest 0) (be16 rest 1)) _ e .0 in
     let room : be16 rest 1 ≤ length rest + length more = omega (arith, b .inside) in
     rw (
       List·getD-append rest more 0 0 (omega (arith, b .least, b .inside)),
@@ -161,14 +162,14 @@ module _ (s : List ℕ) (form : rightForm s ≡ true) where
   pub right-form-fills : fillsMessage s ≡ true
   unfolding fillsMessage blocksEnd totalSize
   right-form-fills =
-      ⊎-elim (λ e. rw (header-alone s e, e)) (λ e. both (fillsMessage s) _ e .0) form-cases
+      ⊎-elim (λ e. rw (header-alone s e, e)) (λ e. both-of (fillsMessage s) _ e .0) form-cases
 
   -- and with a block appended both have the form of a Request and of a Reply
   pub append-right-form : (block : List ℕ) → headerSize ≤ length s → StandardBlock block → requestForm (s ++ block) ≡ true
   unfolding standardFirst
   append-right-form block low b =
       rw (append-fills s block low right-form-fills b, append-blocks s block low right-form-fills b)
-      (⊎-elim (λ e. rw (header-alone s e)) (λ e. first-still (blocksOf s) _ (both (fillsMessage s) _ e .1)) form-cases)
+      (⊎-elim (λ e. rw (header-alone s e)) (λ e. first-still (blocksOf s) _ (both-of (fillsMessage s) _ e .1)) form-cases)
 
 -- the header stays whatever is appended
 pub append-header : (s more : List ℕ) → headerSize ≤ length s → headerOf (s ++ more) ≡ headerOf s

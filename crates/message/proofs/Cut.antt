@@ -9,21 +9,9 @@ use borrow.Author.Tests.{leb-true, eqb-true}
 use lib.Dec.{leb, eqb}
 use lib.ListN.{length, drop, length-drop}
 use Rattle.wire.specs.Numbers.{byteAt, be16}
+use Rattle.wire.proofs.Flags.{decided, both-of, one-of}
 use Rattle.message.specs.Format.{standard, augmented, standardSize, augmentedLeast}
 use Rattle.message.specs.Blocks.{Block, blockAt, begins, rightSize, fitsIn, blocksBy, blocksFrom}
-
--- a test holds or fails
-pub decided : (b : Bool) → (b ≡ true) ⊎ (b ≡ false)
-decided true = inl refl
-decided false = inr refl
-
-pub both : (a b : Bool) → (a && b) ≡ true → (a ≡ true) × (b ≡ true)
-both true b e = (refl, e)
-both false b e = let z : _≡_ {A = ℕ} 0 1 = cc in absurd (omega arith)
-
-pub one-of : (a b : Bool) → (a || b) ≡ true → (a ≡ true) ⊎ (b ≡ true)
-one-of true b e = inl refl
-one-of false b e = inr e
 
 -- what is known of a block that begins
 pub record Begun (rest : List ℕ) : Type 0 where
@@ -34,10 +22,10 @@ pub record Begun (rest : List ℕ) : Type 0 where
 pub size-right : (kind size : ℕ) → rightSize kind size ≡ true → (augmentedLeast ≤ size) × (kind ≡ standard → size ≡ standardSize)
 size-right kind size e =
     ⊎-elim
-    (λ h. let p = both (eqb kind standard) _ h in let q : size ≡ standardSize = eqb-true _ _ (p .1) in (omega arith, λ k. q))
+    (λ h. let p = both-of (eqb kind standard) _ h in let q : size ≡ standardSize = eqb-true _ _ (p .1) in (omega arith, λ k. q))
     (λ h.
-    let p = both (eqb kind augmented && leb augmentedLeast size) _ h in
-    let q = both (eqb kind augmented) _ (p .0) in
+    let p = both-of (eqb kind augmented && leb augmentedLeast size) _ h in
+    let q = both-of (eqb kind augmented) _ (p .0) in
     let k : kind ≡ augmented = eqb-true _ _ (q .0) in
     (leb-true _ _ (q .1), λ l. absurd (omega arith)))
     (one-of (eqb kind standard && eqb size standardSize) _ e)
@@ -45,7 +33,7 @@ size-right kind size e =
 pub begun : (rest : List ℕ) → begins rest ≡ true → Begun rest
 unfolding begins fitsIn
 begun rest e =
-    let p = both (rightSize (byteAt rest 0) (be16 rest 1)) _ e in
+    let p = both-of (rightSize (byteAt rest 0) (be16 rest 1)) _ e in
     let r = size-right (byteAt rest 0) (be16 rest 1) (p .0) in
     record { least = r .0; inside = leb-true _ _ (p .1); standard-size = r .1 }
 

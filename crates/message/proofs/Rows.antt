@@ -17,7 +17,8 @@ use Rattle.message.specs.Format.{headerSize, most, query, standard}
 use Rattle.message.specs.Header.{headerOf, queryOrRequest, rightLength, rightGroup, rightSource, namesNothing, rightClient}
 use Rattle.message.specs.Blocks.{begins, blocksOf, totalSize, blocksEnd, standardFirst, fillsMessage, rightForm}
 use Rattle.message.specs.Check.{firstRow, numberOf, blocksSeen, refused, accepted, checkOf}
-use Rattle.message.proofs.Cut.{decided, too-short, no-blocks, block-first}
+use Rattle.wire.proofs.Flags.{decided}
+use Rattle.message.proofs.Cut.{too-short, no-blocks, block-first}
 
 -- a header alone has no block
 pub header-alone : (s : List ℕ) → length s ≡ headerSize → blocksOf s ≡ []

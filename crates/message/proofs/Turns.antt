@@ -13,16 +13,13 @@ use lib.ListN.{length, drop, length-drop}
 use lib.Seq.{getD-drop, drop-drop}
 use Rattle.wire.specs.Numbers.{byteAt, be, be16}
 use Rattle.wire.proofs.First.{cond-cases}
-use Rattle.wire.proofs.Laws.{be-same}
+use Rattle.wire.proofs.Laws.{be-drop, be-same}
 use Rattle.message.specs.declared.Blocks.{Blocks}
 use Rattle.message.specs.Format.{headerSize, standard, augmentedLeast}
 use Rattle.message.specs.Blocks.{Block, blockAt, begins, rightSize, fitsIn, blocksFrom, blocksOf, totalSize, standardPlaces, lastOr, standards, blocksEnd}
 use Rattle.message.specs.Check.{blocksSeen}
-use Rattle.message.proofs.Cut.{decided, both, size-right, too-short, no-blocks, block-first}
-
--- a number in the bytes from a place on
-pub be-drop : (d : ℕ) (s : List ℕ) (n j : ℕ) → be d (drop n s) j ≡ be d s (n + j)
-be-drop d s n j = be-same d (drop n s) s j (n + j) (λ k h. getD-drop n s (j + k) 0 ∙ ap (byteAt s) (sym (add-assoc n j k)))
+use Rattle.wire.proofs.Flags.{decided, both-of}
+use Rattle.message.proofs.Cut.{size-right, too-short, no-blocks, block-first}
 
 -- what was found up to a place, joined with the blocks from there on
 unfoldable pub joined : ℕ → ℕ → ℕ → List Block → Blocks
@@ -56,11 +53,11 @@ joined-first block count last others =
 -- a block that fits is not empty, and does not pass the end
 pub size-least : (kind size left : ℕ) (fits : Bool) → fits ≡ fitsIn kind size left → not fits ≡ false → augmentedLeast ≤ size
 unfolding fitsIn
-size-least kind size left fits f n = size-right kind size (both (rightSize kind size) _ (sym f ∙ not-false fits n) .0) .0
+size-least kind size left fits f n = size-right kind size (both-of (rightSize kind size) _ (sym f ∙ not-false fits n) .0) .0
 
 pub size-inside : (kind size left : ℕ) (fits : Bool) → fits ≡ fitsIn kind size left → not fits ≡ false → size ≤ left
 unfolding fitsIn
-size-inside kind size left fits f n = leb-true _ _ (both (rightSize kind size) _ (sym f ∙ not-false fits n) .1)
+size-inside kind size left fits f n = leb-true _ _ (both-of (rightSize kind size) _ (sym f ∙ not-false fits n) .1)
 
 -- no more blocks are counted than bytes passed
 pub count-inside : (kind size left at count count′ : ℕ) (fits : Bool) → fits ≡ fitsIn kind size left → not fits ≡ false → count ≤ at

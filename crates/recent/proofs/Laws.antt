@@ -13,19 +13,11 @@ use lib.ListN.{length, drop, length-append, drop-of-length-le}
 use lib.Seq.{drop-drop}
 use Rattle.wire.specs.Numbers.{byteAt, be, bytes32, bytes16}
 use Rattle.wire.specs.Parts.{splice}
+use Rattle.wire.proofs.Flags.{both-of, one-of}
 use Rattle.wire.proofs.Laws.{length-bytes, length-splice, byte-before, byte-after, be-after, be-within, be-first, be-second, be-bytes, drop-splice, splice-front}
 use Rattle.recent.specs.Layout.{entrySize, entryCount, listSize, used, next, entryPlace, allZero, wellFormed, Formed}
 use Rattle.recent.specs.Entries.{entryAt, firstEntries, isOf, someIsOf, seenIn, grown, movedOn, enteredIn, empty}
 use Rattle.recent.proofs.Turns.{entry-fits}
-
--- two tests that both hold
-both : (a b : Bool) → (a && b) ≡ true → (a ≡ true) × (b ≡ true)
-both true b e = (refl, e)
-both false b e = let z : _≡_ {A = ℕ} 0 1 = cc in absurd (omega arith)
-
-either : (a b : Bool) → (a || b) ≡ true → (a ≡ true) ⊎ (b ≡ true)
-either true b e = inl refl
-either false b e = inr e
 
 -- the rules of a well-formed list, one by one
 record Rules (s : List ℕ) : Type 0 where
@@ -38,15 +30,15 @@ record Rules (s : List ℕ) : Type 0 where
 rules : (s : List ℕ) → wellFormed s ≡ true → Rules s
 unfolding wellFormed
 rules s e =
-    let p6 = both _ _ e in
-    let p5 = both _ _ (p6 .0) in
-    let p4 = both _ _ (p5 .0) in
-    let p3 = both _ _ (p4 .0) in
-    let p2 = both _ _ (p3 .0) in
-    let p1 = both _ _ (p2 .0) in
+    let p6 = both-of _ _ e in
+    let p5 = both-of _ _ (p6 .0) in
+    let p4 = both-of _ _ (p5 .0) in
+    let p3 = both-of _ _ (p4 .0) in
+    let p2 = both-of _ _ (p3 .0) in
+    let p1 = both-of _ _ (p2 .0) in
     record {
       sizes = record { whole = eqb-true _ _ (p1 .0); few = leb-true _ _ (p1 .1); within = ltb-true _ _ (p2 .1) };
-      follows = ⊎-elim (λ h. inl (eqb-true (used s) entryCount h)) (λ h. inr (eqb-true (next s) (used s) h)) (either _ _ (p3 .1));
+      follows = ⊎-elim (λ h. inl (eqb-true (used s) entryCount h)) (λ h. inr (eqb-true (next s) (used s) h)) (one-of _ _ (p3 .1));
       third = eqb-true _ _ (p4 .1);
       fourth = eqb-true _ _ (p5 .1);
       rest = p6 .1;
@@ -68,7 +60,7 @@ zero-drop : (n : ℕ) (l : List ℕ) → allZero l ≡ true → allZero (drop n 
 unfolding allZero
 zero-drop zero l e = e
 zero-drop (suc n) [] e = e
-zero-drop (suc n) (x ∷ l) e = zero-drop n l (both (eqb x 0) (allZero l) e .1)
+zero-drop (suc n) (x ∷ l) e = zero-drop n l (both-of (eqb x 0) (allZero l) e .1)
 
 -- next follows used while used is below 32, also when both have moved on
 follows-on : (u n : ℕ) → n < entryCount → (u ≡ entryCount) ⊎ (n ≡ u) → (grown u ≡ entryCount) ⊎ (movedOn n ≡ grown u)

@@ -1,13 +1,12 @@
 -- Blocks of a sheet, and how many entries they hold.
-use Prim.Native.Nat.{ℕ, zero, suc, _+_, _*_, _/_, _-_, _≤_, _<_}
-use mathlib.Core.Bool.{Bool, true, false, not, cond}
+use Prim.Native.Nat.{ℕ, _+_, _*_, _-_, _≤_, _<_}
+use mathlib.Core.Bool.{Bool, false, not, cond}
 use mathlib.Core.List.{List}
-use mathlib.Core.Path.{_≡_, refl, sym, ap, _∙_}
+use mathlib.Core.Path.{_≡_, sym, ap, _∙_}
 use native.Mathlib.Omega.{arith}
 use native.Mathlib.Nat.{mul-le-mul}
 use native.Mathlib.Numerals.{add-one}
 use lib.Dec.{eqb}
-use lib.ListN.{length, getD}
 use lib.Seq.{getD-take, getD-drop}
 use borrow.Author.Tests.{eq-eqb, ne-eqb, not-false}
 use Rattle.wire.specs.Numbers.{byteAt}
@@ -43,9 +42,7 @@ entries-some s each first count x h e = rw (ne-eqb count 0 h, e)
 
 -- few blocks hold few entries
 pub entries-few : (each count : ℕ) → each ≤ 21 → count ≤ 16 → each * (count - 1) ≤ 315
-entries-few each count h k = omega (arith, mul-le-mul h (n-le-m count k)) where
-  n-le-m : (count : ℕ) → count ≤ 16 → count - 1 ≤ 15
-  n-le-m count k = omega arith
+entries-few each count h k = let m : count - 1 ≤ 15 = omega arith in omega (arith, mul-le-mul h m)
 
 -- the entries in use of a block whose frame was found to hold
 pub used-fits : (size kind number : ℕ) (partly ok : Bool) (b : List ℕ) (used : ℕ) → ok ≡ frameOk kind size number partly b → not ok ≡ false → used ≡ usedIn b

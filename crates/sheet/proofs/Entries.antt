@@ -1,54 +1,56 @@
 -- What holds of every sheet's tables as the layout counts them: each interface and each route keeps its rules and lies within
 -- the sheet. A refused sheet has none.
 use Prim.Native.Nat.{ℕ, _+_, _*_, _-_, _/_, _%_, _≤_, _<_}
-use mathlib.Core.Bool.{Bool, true, false}
+use mathlib.Core.Bool.{true, false}
 use mathlib.Core.List.{List}
-use mathlib.Core.Path.{_≡_, refl, sym, ap, _∙_}
+use mathlib.Core.Path.{_≡_, refl, sym, _∙_}
 use native.Mathlib.Omega.{arith}
 use lib.Dec.{eqb}
 use lib.ListN.{length}
 use borrow.Author.Tests.{ne-eqb}
+use Rattle.wire.proofs.First.{cond-cases}
 use Rattle.block.proofs.Frames.{frame-filled}
 use Rattle.entry.specs.Interface.{interfaceSize, interfaceOk}
 use Rattle.entry.specs.Route.{routeSize, routeOk}
 use Rattle.sheet.specs.Rules.{interfaceKind, routeKind, interfaceRight, routeRight}
 use Rattle.sheet.specs.Sheet.{blocks, blockAt, interfaceBlocks, interfacesIn, routesIn, entriesIn, validSheet, refused, counted, layoutOf}
-use Rattle.sheet.specs.Tables.{placeOf, interfaceOf, routeOf}
+use Rattle.sheet.specs.Tables.{placeOf, interfaceOf, routeOf, interfacesOf, routesOf}
 use Rattle.sheet.specs.declared.layout.Layout.{Layout}
-use Rattle.sheet.proofs.Valid.{Valid, valid, interface-run, route-run}
+use Rattle.sheet.proofs.Numbered.{length-listed}
+use Rattle.sheet.proofs.Valid.{valid, interface-run, route-run}
 use Rattle.sheet.proofs.Places.{There, entry-there}
 use Rattle.sheet.proofs.Inside.{interface-in, route-in}
 
--- the layout of a valid sheet, and of any other
+-- what holds of the counts of a valid sheet, and of no counts for any other, holds of the layout
+pub layout-cases : (P : Layout → Type 0) (s : List ℕ) → (validSheet s ≡ true → P (counted s)) → (validSheet s ≡ false → P refused) → P (layoutOf s)
+unfolding layoutOf
+layout-cases P s = cond-cases P (validSheet s) (counted s) refused
+
 pub layout-valid : (s : List ℕ) → validSheet s ≡ true → layoutOf s ≡ counted s
 unfolding layoutOf
 layout-valid s e = rw e
 
-pub layout-refused : (s : List ℕ) → validSheet s ≡ false → layoutOf s ≡ refused
-unfolding layoutOf
-layout-refused s e = rw e
-
 pub valid-told : (s : List ℕ) → layoutOf s .valid ≡ validSheet s
 unfolding counted
-valid-told s = by-flag (validSheet s) refl where
-  by-flag : (t : Bool) → validSheet s ≡ t → layoutOf s .valid ≡ validSheet s
-  by-flag true e = rw (layout-valid s e, e)
-  by-flag false e = rw (layout-refused s e, e)
+valid-told s = layout-cases (λ (l : Layout). l .valid ≡ validSheet s) s sym sym
+
+-- the lists are as long as the layout says
+pub length-interfaces : (s : List ℕ) → length (interfacesOf s) ≡ layoutOf s .interfaces
+unfolding interfacesOf
+length-interfaces s = length-listed (interfaceOf s) 0 (layoutOf s .interfaces)
+
+pub length-routes : (s : List ℕ) → length (routesOf s) ≡ layoutOf s .routes
+unfolding routesOf
+length-routes s = length-listed (routeOf s) 0 (layoutOf s .routes)
 
 -- where something is counted the sheet is valid
 counts-valid : (s : List ℕ) (count : Layout → ℕ) (i : ℕ) → count refused ≡ 0 → i < count (layoutOf s) → validSheet s ≡ true
-counts-valid s count i none h = by-flag (validSheet s) refl where
-  by-flag : (t : Bool) → validSheet s ≡ t → validSheet s ≡ true
-  by-flag true e = e
-  by-flag false e = absurd (omega (arith, none, rw (layout-refused s e) at h))
+counts-valid s count i none = layout-cases (λ (l : Layout). i < count l → validSheet s ≡ true) s (λ e h. e) (λ e h. absurd (omega arith))
 
 -- 1 to 64 interfaces
 pub interfaces-few : (s : List ℕ) → layoutOf s .interfaces ≤ 64
 unfolding counted
-interfaces-few s = by-flag (validSheet s) refl where
-  by-flag : (t : Bool) → validSheet s ≡ t → layoutOf s .interfaces ≤ 64
-  by-flag true e = rw (layout-valid s e) (valid s e .few)
-  by-flag false e = rw (layout-refused s e) (omega arith)
+interfaces-few s = layout-cases (λ (l : Layout). l .interfaces ≤ 64) s (λ e. valid s e .few) (λ e. omega arith)
 
 pub interfaces-some : (s : List ℕ) → layoutOf s .valid ≡ true → 1 ≤ layoutOf s .interfaces
 unfolding counted interfacesIn entriesIn
@@ -60,6 +62,7 @@ interfaces-some s e =
     let f = frame-filled interfaceKind interfaceSize k (eqb (k + 1) m) (blockAt s k) (interface-run s v .frames k (omega arith) (omega (arith, v .some))) in
     rw (layout-valid s t, ne-eqb m 0 (λ z. omega (arith, v .some))) (omega (arith, f .some))
 
+-- interface i: it keeps its rules, and its bytes are there
 module _ (s : List ℕ) (i : ℕ) (there : i < layoutOf s .interfaces) where
   pub interface-valid : validSheet s ≡ true
   interface-valid = counts-valid s (λ (l : Layout). l .interfaces) i refl there
@@ -81,6 +84,7 @@ module _ (s : List ℕ) (i : ℕ) (there : i < layoutOf s .interfaces) where
   interface-keeps =
       rw (interface-in s (512 * (0 + i / 21)) 512 (4 + 24 * (i % 21)) (interface-there .inside)) at (interface-there .rules)
 
+-- route k likewise
 module _ (s : List ℕ) (k : ℕ) (there : k < layoutOf s .routes) where
   pub route-valid : validSheet s ≡ true
   route-valid = counts-valid s (λ (l : Layout). l .routes) k refl there

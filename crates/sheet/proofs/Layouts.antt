@@ -2,7 +2,7 @@
 use Prim.Native.Nat.{ℕ, _+_, _*_, _-_, _/_, _%_, _≤_, _<_}
 use mathlib.Core.Bool.{Bool, true, false, _&&_, not}
 use mathlib.Core.List.{List}
-use mathlib.Core.Path.{_≡_, refl, sym, ap, _∙_}
+use mathlib.Core.Path.{_≡_, sym, ap, _∙_}
 use native.Mathlib.Omega.{arith}
 use native.Mathlib.Nat.{add-sub-cancel-left}
 use lib.Dec.{leb, eqb}
@@ -10,7 +10,7 @@ use lib.ListN.{length, take, drop}
 use borrow.Author.Tests.{lt-ltb, le-ltb, lt-leb, le-leb, leb-true, eqb-true, not-true, not-false}
 use Rattle.entry.specs.Interface.{interfaceSize}
 use Rattle.entry.specs.Route.{routeSize}
-use Rattle.block.proofs.Flags.{both-of}
+use Rattle.wire.proofs.Flags.{both-of}
 use Rattle.sheet.specs.Every.{every}
 use Rattle.sheet.specs.Rules.{interfaceKind, routeKind, interfaceRight, routeRight, blockOk}
 use Rattle.sheet.specs.Sheet.{sizeOk, blocks, interfaceBlocks, interfacesIn, blockOkAt, validSheet, refused, counted, layoutOf}

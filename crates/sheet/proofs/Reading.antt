@@ -1,8 +1,8 @@
 -- The tables as the code reads them: at the layout's places, and from interface to interface for who holds an address.
-use Prim.Native.Nat.{ℕ, zero, suc, _+_, _*_, _-_, _/_, _%_, _≤_, _<_}
-use mathlib.Core.Bool.{Bool, true, cond}
+use Prim.Native.Nat.{ℕ, suc, _+_, _-_, _≤_, _<_}
+use mathlib.Core.Bool.{true, cond}
 use mathlib.Core.List.{List}
-use mathlib.Core.Path.{_≡_, refl, sym, ap, _∙_}
+use mathlib.Core.Path.{_≡_, sym, ap, _∙_}
 use native.Mathlib.Omega.{arith}
 use native.Mathlib.Nat.{sub-zero}
 use lib.Dec.{eqb}
@@ -20,6 +20,7 @@ use Rattle.sheet.specs.declared.layout.Layout.{Layout}
 use Rattle.sheet.specs.declared.tables.Found.{Found}
 use Rattle.sheet.specs.declared.tables.Found.the-variants.{At, Nothing}
 use Rattle.sheet.proofs.Valid.{valid}
+use Rattle.sheet.proofs.Told.{check-interface, check-route}
 use Rattle.sheet.proofs.Entries.{layout-valid, valid-told, interface-few, interface-bytes, route-valid, route-bytes}
 
 -- an interface's place
@@ -29,7 +30,7 @@ place-within s i at e h = omega (arith, interface-bytes s i h)
 -- a route's place
 module _ (s : List ℕ) (l : Layout) (k : ℕ) (el : l ≡ layoutOf s) (there : k < l .routes) where
   routes-there : k < layoutOf s .routes
-  routes-there = rw el at there
+  routes-there = check-route s l el k there
 
   blocks-told : l .blocks ≡ interfaceBlocks s
   unfolding counted
@@ -56,10 +57,10 @@ searched s address i n = holderFrom address i (listed (interfaceOf s) i n)
 
 module _ (s : List ℕ) (l : Layout) (el : l ≡ layoutOf s) where
   pub few-there : (i : ℕ) → i < l .interfaces → i < 64
-  few-there i h = interface-few s i (rw el at h)
+  few-there i h = interface-few s i (check-interface s l el i h)
 
   pub address-within : (i at : ℕ) → i < l .interfaces → at ≡ placeOf interfaceSize 0 i → at + 4 ≤ length s
-  address-within i at h e = omega (arith, place-within s i at e (rw el at h))
+  address-within i at h e = omega (arith, place-within s i at e (check-interface s l el i h))
 
   pub search-start : (address : ℕ) → holderOf s address ≡ searched s address 0 (l .interfaces - 0)
   unfolding holderOf searched interfacesOf

@@ -1,24 +1,27 @@
 -- What a valid sheet is, rule by rule; and how the layout tells of it.
-use Prim.Native.Nat.{ℕ, zero, suc, _+_, _*_, _-_, _/_, _≤_, _<_}
-use mathlib.Core.Bool.{Bool, true, false, _&&_, cond}
+use Prim.Native.Nat.{ℕ, zero, suc, _+_, _*_, _-_, _≤_, _<_}
+use mathlib.Core.Bool.{Bool, true, _&&_, cond}
 use mathlib.Core.List.{List}
-use mathlib.Core.Path.{_≡_, refl, sym, ap, _∙_}
+use mathlib.Core.Path.{_≡_}
 use native.Mathlib.Omega.{arith}
-use lib.Dec.{leb, ltb, eqb}
+use lib.Dec.{leb, eqb}
 use lib.ListN.{length}
 use borrow.Author.Tests.{lt-ltb, le-ltb, leb-true}
 use Rattle.wire.specs.Numbers.{byteAt}
 use Rattle.wire.proofs.First.{cond-cases}
-use Rattle.block.specs.Block.{usedIn, switchesOf, entryAt, frameOk}
+use Rattle.block.specs.Block.{usedIn, switchesOf, frameOk}
 use Rattle.entry.specs.Interface.{interfaceSize}
 use Rattle.entry.specs.Route.{routeSize}
-use Rattle.block.proofs.Flags.{both-of}
+use Rattle.wire.proofs.Flags.{both-of}
 use Rattle.sheet.specs.Every.{every}
 use Rattle.sheet.specs.Rules.{interfaceKind, routeKind, switchesOk, interfaceRight, routeRight, entriesOk, blockOk}
-use Rattle.sheet.specs.Sheet.{sizeOk, blocks, blockAt, interfaceBlocksIn, interfaceBlocks, interfacesIn, blockOkAt, validSheet, refused, counted, layoutOf}
-use Rattle.sheet.specs.declared.layout.Layout.{Layout}
+use Rattle.sheet.specs.Sheet.{sizeOk, blocks, blockAt, interfaceBlocksIn, interfaceBlocks, interfacesIn, blockOkAt, validSheet}
 use Rattle.sheet.proofs.Numbered.{every-one}
 use Rattle.sheet.proofs.Layouts.{Sized, sized}
+
+-- a sheet of 512 n bytes has n blocks
+pub whole-blocks : (s : List ℕ) (n : ℕ) → length s ≡ 512 * n → blocks s ≡ n
+whole-blocks s n e = omega arith
 
 -- no more interface blocks than blocks
 blocks-within : (s : List ℕ) (n : ℕ) → interfaceBlocksIn s n ≤ n

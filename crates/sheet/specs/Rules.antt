@@ -8,7 +8,7 @@ use Rattle.entry.specs.Interface.{interfaceAt, interfaceOk}
 use Rattle.entry.specs.Route.{routeAt, routeOk}
 use Rattle.sheet.specs.Every.{every}
 
--- the kinds of blocks
+-- the kinds of blocks: byte 0
 abbrev pub interfaceKind : ℕ
 interfaceKind = 1
 
@@ -30,7 +30,7 @@ routeRight interfaces b at = routeOk interfaces (routeAt b at)
 abbrev pub entriesOk : ℕ → (List ℕ → ℕ → Bool) → List ℕ → ℕ → Bool
 entriesOk size right b = every (λ j. right b (entryAt size j))
 
--- a block of a kind, with entries of a size, and with its number; `partly` where it may be partly filled
+-- a block of a kind, with entries of a size that keep their rules, and with its number; `partly` where it may be partly filled
 unfoldable pub blockOk : ℕ → ℕ → (List ℕ → ℕ → Bool) → ℕ → Bool → List ℕ → Bool
 blockOk kind size right number partly b =
     frameOk kind size number partly b && switchesOk number (switchesOf b) && entriesOk size right b (usedIn b)

@@ -13,12 +13,15 @@ use Rattle.sheet.specs.Every.{every}
 use Rattle.sheet.specs.Rules.{interfaceKind, routeKind, interfaceRight, routeRight, blockOk}
 use Rattle.sheet.specs.declared.layout.Layout.{Layout}
 
--- 1 to 16 blocks, and nothing more
-abbrev pub sizeOk : ℕ → Bool
-sizeOk size = eqb (size % blockSize) 0 && leb 1 (size / blockSize) && leb (size / blockSize) 16
+abbrev pub mostBlocks : ℕ
+mostBlocks = 16
 
 abbrev pub mostInterfaces : ℕ
 mostInterfaces = 64
+
+-- a length of 1 to 16 whole blocks
+abbrev pub sizeOk : ℕ → Bool
+sizeOk size = eqb (size % blockSize) 0 && leb 1 (size / blockSize) && leb (size / blockSize) mostBlocks
 
 -- how many blocks there are, and block k
 abbrev pub blocks : List ℕ → ℕ
@@ -32,14 +35,15 @@ unfoldable pub interfaceBlocksIn : List ℕ → ℕ → ℕ
 interfaceBlocksIn s zero = 0
 interfaceBlocksIn s (suc k) = interfaceBlocksIn s k + cond (eqb (kindOf (blockAt s k)) interfaceKind) 1 0
 
+-- and of all
 unfoldable pub interfaceBlocks : List ℕ → ℕ
 interfaceBlocks s = interfaceBlocksIn s (blocks s)
 
--- the entries in so many blocks, from block `first` on, of which all but the last are full with `each`
+-- the entries in `count` blocks from block `first` on, of which all but the last are full with `each`
 unfoldable pub entriesIn : List ℕ → ℕ → ℕ → ℕ → ℕ
 entriesIn s each first count = cond (eqb count 0) 0 (each * (count - 1) + usedIn (blockAt s (first + (count - 1))))
 
--- the interfaces, and the routes, of a sheet that keeps the rules
+-- how many interfaces, and how many routes, a sheet that keeps the rules has
 unfoldable pub interfacesIn : List ℕ → ℕ
 interfacesIn s = entriesIn s (entriesEach interfaceSize) 0 (interfaceBlocks s)
 
@@ -53,16 +57,19 @@ blockOkAt s k =
     (blockOk interfaceKind interfaceSize interfaceRight k (eqb (k + 1) (interfaceBlocks s)) (blockAt s k))
     (blockOk routeKind routeSize (routeRight (interfacesIn s)) k (eqb (k + 1) (blocks s)) (blockAt s k))
 
+-- 1 to 16 blocks, at least one of them an interface block, at most 64 interfaces, and every block keeps its rules
 unfoldable pub validSheet : List ℕ → Bool
 validSheet s =
     sizeOk (length s) && leb 1 (interfaceBlocks s) && leb (interfacesIn s) mostInterfaces && every (blockOkAt s) (blocks s)
 
--- what the check tells of a sheet: how many interface blocks, interfaces and routes it has; nothing of one that breaks a rule
+-- what is told of a sheet that breaks a rule: nothing
 abbrev pub refused : Layout
 refused = record { valid = false; blocks = 0; interfaces = 0; routes = 0 }
 
+-- what is told of one that keeps them all: how many interface blocks, interfaces and routes it has
 unfoldable pub counted : List ℕ → Layout
 counted s = record { valid = true; blocks = interfaceBlocks s; interfaces = interfacesIn s; routes = routesIn s }
 
+-- what the check answers
 unfoldable pub layoutOf : List ℕ → Layout
 layoutOf s = cond (validSheet s) (counted s) refused

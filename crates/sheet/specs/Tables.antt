@@ -1,5 +1,5 @@
 -- Reading a valid sheet: interfaces and routes by their numbers, the prohibition, and who holds an address.
-use Prim.Native.Nat.{ℕ, zero, suc, _+_, _*_, _/_, _%_}
+use Prim.Native.Nat.{ℕ, _+_, _*_, _/_, _%_}
 use mathlib.Core.Bool.{Bool, cond}
 use mathlib.Core.List.{List, [], _∷_}
 use lib.Dec.{eqb}
@@ -13,7 +13,7 @@ use Rattle.sheet.specs.Sheet.{blockAt, interfaceBlocks, layoutOf}
 use Rattle.sheet.specs.declared.tables.Found.{Found}
 use Rattle.sheet.specs.declared.tables.Found.the-variants.{At, Nothing}
 
--- where entry i of a kind begins: the entries of a size run on over the blocks, from block `first` on
+-- where entry i of a kind begins: numbers run on over the blocks of the kind, from block `first` on
 abbrev pub placeOf : ℕ → ℕ → ℕ → ℕ
 placeOf size first i = blockSize * (first + i / entriesEach size) + entryAt size (i % entriesEach size)
 
@@ -35,12 +35,13 @@ routesOf s = listed (routeOf s) 0 (layoutOf s .routes)
 unfoldable pub prohibitedOf : List ℕ → Bool
 prohibitedOf s = eqb (switchesOf (blockAt s 0)) 1
 
--- the lowest of the interfaces, the first of them numbered i, that holds an address
+-- the lowest interface that holds an address, of those numbered from i on
 unfoldable pub holderFrom : ℕ → ℕ → List Interface → Found
 holderFrom address i [] = Nothing
 holderFrom address i (x ∷ xs) =
     let later = holderFrom address (i + 1) xs in
     cond (eqb (x .address) address) (At i) later
 
+-- and of all
 unfoldable pub holderOf : List ℕ → ℕ → Found
 holderOf s address = holderFrom address 0 (interfacesOf s)

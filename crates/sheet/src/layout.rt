@@ -18,6 +18,7 @@ pub struct Layout {
     pub routes: usize,
 }
 
+// Whether a length is that of 1 to 16 blocks.
 fn size_ok(size: usize) -> bool
     ensures { λ r. ⌜ r ≡ sizeOk size ⌝ }
 {
@@ -112,6 +113,7 @@ fn blocks_ok(s: &[u8], m: usize, interfaces: u16) -> bool
     ok
 }
 
+// What is told of a sheet that breaks a rule.
 fn refuse() -> Layout
     ensures { λ l. ⌜ l ≡ refused ⌝ }
 {

@@ -14,6 +14,7 @@ pub fn wide(x: u8) -> usize
     x as usize
 }
 
+// Whether block `number` may have these switches.
 fn switches_ok(number: u16, switches: u16) -> bool
     ensures { λ r. ⌜ r ≡ switchesOk number switches ⌝ }
 {

@@ -9,6 +9,7 @@ ghost use Rattle.entry.specs.Route.{routeSize, routeAt};
 ghost use Rattle.sheet.specs.Sheet.{layoutOf};
 ghost use Rattle.sheet.specs.Tables.{placeOf, interfaceOf, routeOf, prohibitedOf, holderOf};
 
+// The number of an interface, or none.
 pub enum Found {
     At(usize),
     Nothing,

@@ -35,3 +35,17 @@ pub ruleset parts = (both-first, both-second)
 pub one-of : (t u : Bool) → t || u ≡ true → (t ≡ true) ⊎ (u ≡ true)
 one-of true u e = inl refl
 one-of false u e = inr e
+
+-- one of two holds, and it is not the first; or not the second
+pub other-of : (t u : Bool) → t || u ≡ true → t ≡ false → u ≡ true
+other-of true u e f = cc
+other-of false u e f = e
+
+pub first-of : (t u : Bool) → t || u ≡ true → u ≡ false → t ≡ true
+first-of true u e f = refl
+first-of false u e f = cc
+
+-- neither holds
+pub neither-of : (t u : Bool) → t || u ≡ false → (t ≡ false) × (u ≡ false)
+neither-of true u e = (e, cc)
+neither-of false u e = (refl, e)

@@ -59,6 +59,10 @@ splice-is : (s : List ℕ) (at : ℕ) (xs : List ℕ) → splice s at xs ≡ tak
 unfolding splice
 splice-is s at xs = refl
 
+-- and behind so many bytes of it
+pub be-drop : (d : ℕ) (s : List ℕ) (n j : ℕ) → be d (drop n s) j ≡ be d s (n + j)
+be-drop d s n j = be-same d (drop n s) s j (n + j) (λ k h. rw (getD-drop, ← add-assoc))
+
 -- a part replaced
 module _ (s : List ℕ) (at : ℕ) (xs : List ℕ) (fits : at + length xs ≤ length s) where
   length-front : length (take at s) ≡ at
