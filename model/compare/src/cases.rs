@@ -1,7 +1,7 @@
 //! Random cases of the engine's step: a router, and messages to it, right ones and wrong ones.
 
 use crate::entries::Arrival;
-use crate::tables::{address, group, plan, spoil};
+use crate::tables::{address, group, plan, spoil, spoil_entry};
 use model::build::{augmented, ip, standard, Header, SheetPlan};
 use model::bytes::ALL_ONES;
 use model::recent::{Entry, Recent};
@@ -27,9 +27,13 @@ pub struct Router {
 
 impl Router {
     pub fn random(rng: &mut Rng) -> Router {
-        let plan = plan(rng);
+        let mut plan = plan(rng);
+        let spoilt = rng.below(12);
+        if spoilt == 0 {
+            spoil_entry(&mut plan, rng);
+        }
         let mut sheet = plan.to_bytes();
-        if rng.one_in(8) {
+        if spoilt == 1 {
             spoil(&mut sheet, rng);
         }
         let mut recent = Recent::default();
@@ -131,6 +135,9 @@ impl Router {
             if rng.one_in(4) && message.len() + 8 <= room {
                 message.extend(augmented(8, rng.draw() as u8));
             }
+            if rng.one_in(100) {
+                message.extend(odd_block(rng));
+            }
         }
         if message.len() + 8 <= room && (full || rng.one_in(3)) {
             message.extend(augmented((room - message.len()) / 4 * 4, rng.draw() as u8));
@@ -144,6 +151,14 @@ impl Router {
         }
         message
     }
+}
+
+/// A block whose length or type is none of its kind's, or just is.
+fn odd_block(rng: &mut Rng) -> Vec<u8> {
+    let length = rng.pick(&[3, 4, 5, 6, 7, 8, 9, 10, 11, 12, 48, 51, 52, 53, 56, 264, 308]);
+    let mut block = augmented(length, 0);
+    block[0] = rng.pick(&[0, 1, 2, 3, 4, 5, 5, 5, 6, 255]);
+    block
 }
 
 /// What blocks hold beyond type and length is anything.

@@ -50,7 +50,7 @@ fn interface(rng: &mut Rng) -> InterfaceEntry {
 
 /// A map of interfaces: all, none, or some.
 fn map(rng: &mut Rng, interfaces: usize) -> u64 {
-    let every = u64::MAX >> (64 - interfaces);
+    let every = u64::MAX >> 64_usize.saturating_sub(interfaces);
     match rng.below(4) {
         0 => 0,
         1 => every,
@@ -90,7 +90,7 @@ fn route(rng: &mut Rng, interfaces: usize) -> RouteEntry {
 pub fn plan(rng: &mut Rng) -> SheetPlan {
     let interfaces = match rng.below(40) {
         0 => 1 + rng.below(64) as usize,
-        1 => rng.pick(&[20, 21, 22, 42, 43, 63, 64]),
+        1 => rng.pick(&[20, 21, 22, 42, 43, 63, 64, 65, 84]),
         _ => 1 + rng.below(6) as usize,
     };
     let room = 9 * (16 - interfaces.div_ceil(21));
@@ -106,18 +106,82 @@ pub fn plan(rng: &mut Rng) -> SheetPlan {
     }
 }
 
-/// A change to a sheet that mostly breaks one rule of it; its check words are mended mostly.
+/// A first octet at an edge of the address classes.
+fn edge_address(rng: &mut Rng) -> u32 {
+    match rng.below(3) {
+        0 => rng.pick(&[0, 1, u32::MAX - 1, u32::MAX]),
+        _ => ip(rng.pick(&[0, 1, 126, 127, 128, 223, 224, 239, 240, 255]), rng.draw() as u8, 0, 1),
+    }
+}
+
+/// One field of one entry at an edge of its rule, or past it.
+pub fn spoil_entry(plan: &mut SheetPlan, rng: &mut Rng) {
+    let interfaces = plan.interfaces.len();
+    if plan.routes.is_empty() || rng.one_in(3) {
+        let entry = &mut plan.interfaces[rng.below(interfaces as u64) as usize];
+        match rng.below(4) {
+            0 => entry.address = edge_address(rng),
+            1 => entry.length = rng.pick(&[0, 1, 32, 33, 64, 255]),
+            2 => entry.flags = rng.pick(&[0, 3, 4, 5, 8, 128, 255]),
+            _ => entry.zero = rng.pick(&[0, 1, 128]),
+        }
+        return;
+    }
+    let beyond = 1u64.checked_shl(interfaces as u32).unwrap_or(0);
+    let routes = plan.routes.len() as u64;
+    let entry = &mut plan.routes[rng.below(routes) as usize];
+    match rng.below(13) {
+        0 => entry.kind = rng.pick(&[0, 1, 2, 3, 4, 255]),
+        1 => entry.length = rng.pick(&[0, 1, 31, 32, 33, 255]),
+        2 => entry.flags = rng.pick(&[0, 1, 2, 3, 4, 6, 128]),
+        3 => entry.zero = rng.pick(&[0, 1, 128]),
+        4 => entry.zeros = rng.pick(&[0, 1, 256]),
+        5 => entry.source ^= 1 << rng.below(32),
+        6 => entry.group = edge_address(rng),
+        7 => entry.upstream = edge_address(rng),
+        8 => entry.incoming = rng.pick(&[0, interfaces as u16 - 1, interfaces as u16, 64, 255, 256, 65_534, 65_535]),
+        9 => entry.forward |= beyond,
+        10 => entry.pruned |= beyond,
+        11 => entry.stopped |= beyond,
+        _ => *entry = RouteEntry { source: 0, length: 0, ..*entry },
+    }
+}
+
+/// Takes the last entry out of a block.
+fn take_one_out(block: &mut [u8]) {
+    let size = if block[0] == 1 { 24 } else { 56 };
+    block[1] = block[1].wrapping_sub(1);
+    let end = 4 + size * usize::from(block[1]);
+    if end + size <= 508 {
+        block[end..end + size].fill(0);
+    }
+}
+
+/// A change to a sheet that mostly breaks one rule of its blocks; its check words are mended mostly.
 pub fn spoil(sheet: &mut Vec<u8>, rng: &mut Rng) {
     let at = rng.below(sheet.len() as u64) as usize;
-    match rng.below(8) {
+    let start = at / 512 * 512;
+    let blocks = sheet.len() / 512;
+    match rng.below(11) {
         0 => sheet.truncate(at),
-        1 => sheet.resize(rng.pick(&[512, 1024, 1536, 8192, 8704]), 0),
-        2 => sheet[at / 512 * 512 + rng.pick(&[0, 1, 2, 3, 508, 509])] = rng.below(24) as u8,
+        1 => sheet.resize(rng.pick(&[0, 512, 1024, 1536, 8192, 8704]), 0),
+        2 => sheet[start + rng.pick(&[0, 1, 2, 3, 508, 509])] = rng.below(24) as u8,
         3 => sheet[at] = rng.pick(&[0, 1, 2, 3, 4, 31, 32, 33, 64, 127, 128, 223, 224, 240, 255]),
         4 => sheet[at] ^= 1 << rng.below(8),
-        5 => {
-            let block = sheet[at / 512 * 512..][..512.min(sheet.len() - at / 512 * 512)].to_vec();
+        5 => take_one_out(&mut sheet[start..start + 512]),
+        6 => take_one_out(&mut sheet[..512]),
+        7 | 8 => {
+            // a block of the sheet again behind it, with the next number; it may be of the wrong kind there
+            let mut block = sheet[start..start + 512].to_vec();
+            block[2..4].copy_from_slice(&(blocks as u16).to_be_bytes());
+            block[508..510].fill(0);
             sheet.extend(block);
+        }
+        9 => {
+            sheet.rotate_left(512);
+            for (number, block) in sheet.chunks_exact_mut(512).enumerate() {
+                block[2..4].copy_from_slice(&(number as u16).to_be_bytes());
+            }
         }
         _ => sheet[at] = rng.draw() as u8,
     }
