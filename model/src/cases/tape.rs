@@ -1,0 +1,76 @@
+//! What a case program reads, and what it must write: commands of 32 bytes, and lines of text.
+//!
+//! A command's byte 0 says what to do. Those that all programs over bytes share: 0 writes the text
+//! from byte 2 on, whose length is byte 1, as the first part of a line; the number of an area puts
+//! bytes 4 to 31 into that area, at the place that bytes 2 and 3 give.
+
+/// Every command has this many bytes.
+const COMMAND: usize = 32;
+const TEXT: usize = 2;
+const PAYLOAD: usize = 4;
+const LABEL: u8 = 0;
+
+/// A case program's standard input, and the output that the model expects of it.
+#[derive(Default)]
+pub struct Tape {
+    pub stdin: Vec<u8>,
+    pub stdout: String,
+}
+
+/// Bytes that a program keeps, as they stand after the commands so far.
+pub struct Area {
+    number: u8,
+    pub bytes: Vec<u8>,
+}
+
+impl Area {
+    pub fn new(number: u8, length: usize) -> Area {
+        Area { number, bytes: vec![0; length] }
+    }
+}
+
+impl Tape {
+    pub fn command(&mut self, operation: u8, rest: &[u8]) {
+        let mut command = [0; COMMAND];
+        command[0] = operation;
+        command[1..=rest.len()].copy_from_slice(rest);
+        self.stdin.extend(command);
+    }
+
+    /// A command with numbers from byte 8 on, 8 bytes each, big-endian.
+    pub fn numbers(&mut self, operation: u8, fields: &[u64]) {
+        let fields: Vec<u8> = fields.iter().flat_map(|field| field.to_be_bytes()).collect();
+        self.command(operation, &[&[0; 7], fields.as_slice()].concat());
+    }
+
+    /// Has the program begin its next line with a text.
+    pub fn label(&mut self, text: &str) {
+        for piece in text.as_bytes().chunks(COMMAND - TEXT) {
+            self.command(LABEL, &[&[piece.len() as u8], piece].concat());
+        }
+        self.stdout.push_str(text);
+    }
+
+    /// The rest of a line that the program is to write.
+    pub fn line(&mut self, text: String) {
+        self.stdout.push_str(&text);
+        self.stdout.push('\n');
+    }
+
+    /// Makes the first bytes of an area these, by commands for those that differ.
+    pub fn set(&mut self, area: &mut Area, wanted: &[u8]) {
+        let size = COMMAND - PAYLOAD;
+        while let Some(differs) = (0..wanted.len()).find(|at| area.bytes[*at] != wanted[*at]) {
+            let start = differs.min(area.bytes.len() - size);
+            let end = (start + size).min(wanted.len());
+            area.bytes[start..end].copy_from_slice(&wanted[start..end]);
+            let place = (start as u16).to_be_bytes();
+            self.command(area.number, &[&[0], &place[..], &area.bytes[start..start + size]].concat());
+        }
+    }
+}
+
+/// The number that the programs print for all bytes of an area.
+pub fn digest(area: &[u8]) -> u64 {
+    area.iter().fold(0, |h, byte| (h * 257 + u64::from(*byte) + 1) % 4_294_967_291)
+}
