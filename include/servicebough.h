@@ -244,6 +244,35 @@ uint32_t bough_engine_step(
     uint8_t *output, size_t output_len,
     uint8_t *record, size_t record_len);
 
+/* ---- walk: a Query through a yard ---------------------------------------------------------------- */
+
+/* Walks a Query from router to router as the network would carry it, without a network: for a check of
+ * tables before they are put to use.
+ *
+ * yard: 1 to 32 sheets of exactly 1024 bytes (two blocks), one for each router. times: the arrival time at each
+ * router, at least as many as routers, in the machine's byte order. message: the Query. It goes to interface
+ * `receiving_interface` of router `start_router`, sent to `destination` with `ttl`. Each router starts with an empty recent
+ * list; a Request sent on goes, with TTL 255, to the lowest router and interface that holds its destination.
+ *
+ * 101, 102, 103: the walk's end. output[0 .. length) is the last message sent, and answer[0 .. 16) is end, steps
+ * (calls of the engine), blocks (type 4 blocks of that message) and length, 4 bytes each, big-endian.
+ * Any other number is a refusal (1, 21 to 24, tried in that order; no step was made) or the drop number by which the
+ * first router dropped the message (one step); nothing is written.
+ *
+ * A walk makes at most as many steps as the Query has hops, and at most 28. It takes up to 64 kilobytes of stack;
+ * the other entries take less than 2. */
+#define BOUGH_ANSWER_END 0            /* byte offsets in the answer */
+#define BOUGH_ANSWER_STEPS 4
+#define BOUGH_ANSWER_BLOCKS 8
+#define BOUGH_ANSWER_LENGTH 12
+uint32_t bough_walk(
+    const uint8_t *yard, size_t yard_len,
+    const uint32_t *times, size_t times_len,
+    const uint8_t *message, size_t message_len,
+    uint32_t start_router, uint32_t receiving_interface, uint32_t destination, uint32_t ttl,
+    uint8_t *output, size_t output_len,
+    uint8_t *answer, size_t answer_len);
+
 #ifdef __cplusplus
 }
 #endif

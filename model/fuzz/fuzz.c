@@ -4,9 +4,11 @@
  * what the model leaves lies on the heap. The model is compiled with the fuzzer's counters, so that inputs that take it
  * somewhere new are kept.
  *
- * Input: byte 0 the entry (modulo 2: engine, clock), byte 1 bits (1: leave the check words as they are; 2: pages before). Then
+ * Input: byte 0 the entry (modulo 3: engine, walk, clock), byte 1 bits (1: leave the check words as they are; 2: pages before). Then
  *   engine: destination, receiving interface, TTL, time (4 each), lengths of output, record, message and recent list (2
  *           each), message, recent list, and the sheet in all that is left;
+ *   walk:   start router, receiving interface, destination, TTL (4 each), lengths of output, answer, message and times (2
+ *           each), message, times, and the yard in all that is left;
  *   clock:  the length lent (1), r, y and reading (8 each). */
 #define _GNU_SOURCE
 #include <servicebough.h>
@@ -22,6 +24,8 @@ uint64_t model_clock_unix(uint64_t, uint64_t);
 uint32_t model_clock_arrival(uint64_t);
 uint32_t model_engine_step(const uint8_t *, size_t, uint32_t, uint32_t, uint32_t, uint32_t, const uint8_t *, size_t, uint8_t *,
                            size_t, uint8_t *, size_t, uint8_t *, size_t);
+uint32_t model_walk(const uint8_t *, size_t, const uint32_t *, size_t, const uint8_t *, size_t, uint32_t, uint32_t, uint32_t,
+                    uint32_t, uint8_t *, size_t, uint8_t *, size_t);
 int LLVMFuzzerTestOneInput(const uint8_t *data, size_t size);
 
 enum { MESSAGE, SHEET, RECENT, OUTPUT, RECORD, AREAS };
@@ -142,6 +146,31 @@ static void engine(struct input *in, bool mended, bool before)
     same(&record, "the record");
 }
 
+static void walk(struct input *in, bool mended, bool before)
+{
+    uint32_t router = (uint32_t)number(in, 4), receiving = (uint32_t)number(in, 4), destination = (uint32_t)number(in, 4),
+             ttl = (uint32_t)number(in, 4);
+    size_t output_len = number(in, 2), answer_len = number(in, 2), message_len = number(in, 2), times_len = number(in, 2) % 256;
+    struct pair output = lend(OUTPUT, NULL, output_len, before), answer = lend(RECORD, NULL, answer_len, before);
+    struct pair message = lend(MESSAGE, in, message_len, before), times = lend(RECENT, in, 4 * times_len, before);
+    struct pair yard = lend(SHEET, in, in->left < AREA ? in->left : AREA, before);
+    if (mended) {
+        mend(yard.ours, yard.length);
+        mend(yard.theirs, yard.length);
+    }
+    uint32_t ours = bough_walk(yard.ours, yard.length, (const uint32_t *)(void *)times.ours, times_len, message.ours, message_len,
+                               router, receiving, destination, ttl, output.ours, output_len, answer.ours, answer_len);
+    uint32_t theirs = model_walk(yard.theirs, yard.length, (const uint32_t *)(void *)times.theirs, times_len, message.theirs,
+                                 message_len, router, receiving, destination, ttl, output.theirs, output_len, answer.theirs,
+                                 answer_len);
+    equal(ours, theirs, "the walk's end");
+    same(&message, "the message");
+    same(&times, "the times");
+    same(&yard, "the yard");
+    same(&output, "the output");
+    same(&answer, "the answer");
+}
+
 static void clock_entries(struct input *in, bool before)
 {
     size_t length = number(in, 1);
@@ -159,8 +188,10 @@ int LLVMFuzzerTestOneInput(const uint8_t *data, size_t size)
 {
     struct input in = {.at = data, .left = size};
     uint64_t entry = number(&in, 1), bits = number(&in, 1);
-    if (entry % 2 == 0)
+    if (entry % 3 == 0)
         engine(&in, (bits & 1) == 0, (bits & 2) != 0);
+    else if (entry % 3 == 1)
+        walk(&in, (bits & 1) == 0, (bits & 2) != 0);
     else
         clock_entries(&in, (bits & 2) != 0);
     return 0;

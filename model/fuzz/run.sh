@@ -12,4 +12,4 @@ clang -std=c11 -Wall -Wextra -Wpedantic -g -O1 -fsanitize=fuzzer,address -Iinclu
     "$work/model/release/libbeside.a" target/staticlib/libservicebough.a -lpthread -ldl -lm
 cargo run -q --release --manifest-path model/compare/Cargo.toml --bin compare -- seeds 400 1 "$work/corpus"
 cd "$work"
-exec ./fuzz -max_len=16384 -max_total_time="$seconds" -print_final_stats=1 -timeout=10 corpus
+exec ./fuzz -max_len=40000 -max_total_time="$seconds" -print_final_stats=1 -timeout=10 corpus

@@ -1,5 +1,7 @@
 //! The entries of include/servicebough.h, wrapped once: a slice passes as its pointer and its length.
 
+use model::walk::Start;
+
 mod c {
     #[link(name = "servicebough", kind = "static")]
     extern "C" {
@@ -22,6 +24,22 @@ mod c {
             output_len: usize,
             record: *mut u8,
             record_len: usize,
+        ) -> u32;
+        pub fn bough_walk(
+            yard: *const u8,
+            yard_len: usize,
+            times: *const u32,
+            times_len: usize,
+            message: *const u8,
+            message_len: usize,
+            start_router: u32,
+            receiving_interface: u32,
+            destination: u32,
+            ttl: u32,
+            output: *mut u8,
+            output_len: usize,
+            answer: *mut u8,
+            answer_len: usize,
         ) -> u32;
     }
 }
@@ -75,6 +93,27 @@ pub fn engine_step(
             output.len(),
             record.as_mut_ptr(),
             record.len(),
+        )
+    }
+}
+
+pub fn walk(yard: &[u8], times: &[u32], start: Start, output: &mut [u8], answer: &mut [u8]) -> u32 {
+    unsafe {
+        c::bough_walk(
+            yard.as_ptr(),
+            yard.len(),
+            times.as_ptr(),
+            times.len(),
+            start.message.as_ptr(),
+            start.message.len(),
+            start.router,
+            start.receiving,
+            start.destination,
+            start.ttl,
+            output.as_mut_ptr(),
+            output.len(),
+            answer.as_mut_ptr(),
+            answer.len(),
         )
     }
 }

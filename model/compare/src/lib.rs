@@ -6,3 +6,4 @@ pub mod entries;
 pub mod lent;
 pub mod tables;
 pub mod work;
+pub mod yards;

@@ -99,6 +99,11 @@ pub fn plan(rng: &mut Rng) -> SheetPlan {
         1 => rng.pick(&[8, 9, 10, 18, 19, room]),
         _ => rng.below(10) as usize,
     };
+    router_with(rng, interfaces, routes)
+}
+
+/// A router with so many interfaces and routes.
+pub fn router_with(rng: &mut Rng, interfaces: usize, routes: usize) -> SheetPlan {
     SheetPlan {
         prohibited: rng.one_in(12),
         interfaces: (0..interfaces).map(|_| interface(rng)).collect(),

@@ -5,6 +5,8 @@ use model::build::{ip, standard, Header, InterfaceEntry, RouteEntry, SheetPlan};
 use model::clock::{self, Clock};
 use model::engine::{self, Arrival};
 use model::recent::Recent;
+use model::walk::{walk, Start};
+use model::worked;
 use std::hint::black_box;
 
 const GROUP: u32 = ip(232, 1, 1, 1);
@@ -94,6 +96,47 @@ fn stepping(name: &'static str, blocks: usize, sheets: usize, receiving: u32, an
     Work { name, library: Box::new(library), model: Box::new(model) }
 }
 
+/// Routers in a ring: each sends on to the next, and the last to the first.
+fn ring(routers: u8) -> Vec<u8> {
+    let router = |number: u8| {
+        let interfaces = vec![InterfaceEntry::new(ip(10, number, 0, 1), 24), InterfaceEntry::new(ip(10, number, 1, 1), 24)];
+        let upstream = ip(10, (number + 1) % routers, 0, 1);
+        let routes = vec![RouteEntry::group(GROUP).by(1, upstream, 1)];
+        SheetPlan { prohibited: false, interfaces, routes }.to_bytes()
+    };
+    (0..routers).flat_map(router).collect()
+}
+
+fn to_the_ring() -> Vec<u8> {
+    let (source, client) = (ip(203, 0, 113, 9), ip(10, 0, 0, 50));
+    Header { kind: 1, length: 20, hops: 255, group: GROUP, source, client, id: 1, port: 40_000 }.to_bytes()
+}
+
+fn walking(name: &'static str, yard: Vec<u8>, query: Vec<u8>, destination: u32) -> Work {
+    fn start(message: &[u8], destination: u32) -> Start<'_> {
+        Start { message, router: 0, receiving: 0, destination, ttl: 64 }
+    }
+    let times = vec![5; 32];
+    let (yard2, query2, times2) = (yard.clone(), query.clone(), times.clone());
+    let library = move |turns| {
+        let (mut output, mut answer) = (vec![0; 1472], [0; 16]);
+        for _ in 0..turns {
+            let end = entries::walk(black_box(&yard), &times, start(&query, destination), &mut output, &mut answer);
+            assert_eq!((end, answer[7]), (101, 28));
+            black_box(&output);
+        }
+    };
+    let model = move |turns| {
+        let mut output = vec![0; 1472];
+        for _ in 0..turns {
+            let walked = walk(black_box(&yard2), &times2, start(&query2, destination), &mut output);
+            assert_eq!((walked.end, walked.steps), (101, 28));
+            black_box(&output);
+        }
+    };
+    Work { name, library: Box::new(library), model: Box::new(model) }
+}
+
 pub fn all() -> Vec<Work> {
     vec![
         advancing(),
@@ -108,5 +151,7 @@ pub fn all() -> Vec<Work> {
         stepping("step: 1 block, sheet of 16", 1, 16, 0, 100),
         stepping("step: 10 blocks, sheet of 16", 10, 16, 0, 100),
         stepping("step: 27 blocks (no room), sheet of 16", 27, 16, 0, 101),
+        walking("walk: P3, 28 steps", worked::yard(ip(198, 51, 100, 1)), worked::query(255), worked::DESTINATION),
+        walking("walk: 32 routers in a ring, 28 steps", ring(32), to_the_ring(), ip(10, 0, 0, 1)),
     ]
 }

@@ -2,6 +2,7 @@
 
 use model::clock::{self, Clock, Tick};
 use model::engine::{step, Arrival};
+use model::walk::{walk, Start};
 use std::slice::{from_raw_parts, from_raw_parts_mut};
 
 /// # Safety
@@ -68,4 +69,38 @@ pub extern "C" fn model_clock_unix(seconds: u64, nanoseconds: u64) -> u64 {
 #[no_mangle]
 pub extern "C" fn model_clock_arrival(y: u64) -> u32 {
     clock::arrival(y)
+}
+
+/// # Safety
+/// As of [`model_engine_step`]; `times` is aligned.
+#[no_mangle]
+pub unsafe extern "C" fn model_walk(
+    yard: *const u8,
+    yard_len: usize,
+    times: *const u32,
+    times_len: usize,
+    message: *const u8,
+    message_len: usize,
+    router: u32,
+    receiving: u32,
+    destination: u32,
+    ttl: u32,
+    output: *mut u8,
+    output_len: usize,
+    answer: *mut u8,
+    answer_len: usize,
+) -> u32 {
+    let answer = from_raw_parts_mut(answer, answer_len);
+    if answer.len() < 16 {
+        return 1;
+    }
+    let start = Start { message: from_raw_parts(message, message_len), router, receiving, destination, ttl };
+    let (yard, times) = (from_raw_parts(yard, yard_len), from_raw_parts(times, times_len));
+    let walked = walk(yard, times, start, from_raw_parts_mut(output, output_len));
+    if walked.end >= 101 {
+        for (part, number) in answer.chunks_mut(4).zip([walked.end, walked.steps, walked.blocks, walked.length]) {
+            part.copy_from_slice(&number.to_be_bytes());
+        }
+    }
+    walked.end
 }

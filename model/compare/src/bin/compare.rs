@@ -1,6 +1,6 @@
 //! Compares the library's entries with the model on random cases:
 //!
-//!     compare clock|engine CASES SEED [exact]
+//!     compare clock|engine|walk CASES SEED [exact]
 //!     compare seeds CASES SEED FOLDER
 //!
 //! Every lent buffer has noise in it and guard bytes round it; number, buffers and guards must come out
@@ -11,10 +11,12 @@
 use compare::cases::{Router, Step};
 use compare::entries;
 use compare::lent::{Guard, Lent};
+use compare::yards::{self, Walk};
 use model::clock::{self, Clock, Tick, LIMIT};
 use model::engine::{self, SENT_ON};
 use model::message::{blocks, BlockType};
 use model::rng::Rng;
+use model::walk::{Start, Walked};
 use std::collections::BTreeMap;
 use std::path::Path;
 use std::process::exit;
@@ -158,20 +160,71 @@ fn engine_cases(cases: u64, rng: &mut Rng, guard: Guard, met: &mut Met) {
     }
 }
 
-/// Cases of the engine as inputs of the fuzz target.
+// ---- walk -----------------------------------------------------------------------------------------
+
+/// What the model's walk would leave in lent bytes: an answer under 16 bytes is 1, and only a message sent is told of.
+fn model_walk(walk: &Walk, start: Start, output: &mut [u8], answer: &mut [u8]) -> Walked {
+    if answer.len() < 16 {
+        return Walked { end: 1, steps: 0, blocks: 0, length: 0 };
+    }
+    let walked = model::walk::walk(&walk.yard, &walk.times, start, output);
+    if walked.end >= 101 {
+        for (part, number) in answer.chunks_mut(4).zip([walked.end, walked.steps, walked.blocks, walked.length]) {
+            part.copy_from_slice(&number.to_be_bytes());
+        }
+    }
+    walked
+}
+
+fn walk_case(walk: &Walk, rng: &mut Rng, guard: Guard, met: &mut Met) {
+    let mut yard = Lent::of(&walk.yard, guard, rng);
+    let mut message = Lent::of(&walk.message, guard, rng);
+    let mut ours = [Lent::noise(walk.output, guard, rng), Lent::noise(walk.answer, guard, rng)];
+    let mut theirs = ours.clone();
+    let read = [yard.clone(), message.clone()];
+    let times = walk.times.clone().into_boxed_slice();
+    let start = |message| Start {
+        message,
+        router: walk.router,
+        receiving: walk.receiving,
+        destination: walk.destination,
+        ttl: walk.ttl,
+    };
+    let [output, answer] = &mut ours;
+    let number = entries::walk(yard.slice(), &times, start(message.slice()), output.slice(), answer.slice());
+    let [output, answer] = &mut theirs;
+    let walked = model_walk(walk, start(&walk.message), output.slice(), answer.slice());
+    if number != walked.end || ours != theirs || read != [yard, message] || *times != walk.times[..] {
+        differs(&format!("{walk:?}: {number}, model {walked:?}"));
+    }
+    met.count("end", number);
+    met.count("steps", walked.steps);
+}
+
+// ---- the fuzz target's inputs ---------------------------------------------------------------------
+
+/// Its entry, four numbers of 4 bytes, four lengths of 2, then the slices.
+fn seed(entry: u8, numbers: [u32; 4], lengths: [usize; 4], slices: &[&[u8]]) -> Vec<u8> {
+    let mut bytes = vec![entry, 1];
+    bytes.extend(numbers.iter().flat_map(|number| number.to_be_bytes()));
+    bytes.extend(lengths.iter().flat_map(|length| (*length as u16).to_be_bytes()));
+    slices.iter().for_each(|slice| bytes.extend(*slice));
+    bytes
+}
+
 fn write_seeds(cases: u64, rng: &mut Rng, folder: &Path) -> io::Result<()> {
     for number in 0..cases {
-        let step = Router::random(rng).step(rng);
-        let mut bytes = vec![0, 1];
-        for field in [step.arrival.destination, step.arrival.receiving, step.arrival.ttl, step.arrival.time] {
-            bytes.extend(field.to_be_bytes());
+        let Step { message, arrival, sheet, recent, output, record } = Router::random(rng).step(rng);
+        let numbers = [arrival.destination, arrival.receiving, arrival.ttl, arrival.time];
+        let lengths = [output, record, message.len(), recent.len()];
+        if message.len() <= 2000 {
+            fs::write(folder.join(format!("step{number}")), seed(0, numbers, lengths, &[&message, &recent, &sheet]))?;
         }
-        for length in [step.output, step.record, step.message.len(), step.recent.len()] {
-            bytes.extend((length as u16).to_be_bytes());
-        }
-        if step.message.len() <= 2000 {
-            fs::write(folder.join(format!("step{number}")), [bytes, step.message, step.recent, step.sheet].concat())?;
-        }
+        let walk = yards::random(rng);
+        let numbers = [walk.router, walk.receiving, walk.destination, walk.ttl];
+        let lengths = [walk.output, walk.answer, walk.message.len(), walk.times.len()];
+        let times: Vec<u8> = walk.times.iter().flat_map(|time| time.to_ne_bytes()).collect();
+        fs::write(folder.join(format!("walk{number}")), seed(1, numbers, lengths, &[&walk.message, &times, &walk.yard]))?;
     }
     Ok(())
 }
@@ -180,7 +233,7 @@ fn main() {
     let words: Vec<String> = std::env::args().skip(1).collect();
     let number = |at: usize| words.get(at).and_then(|word| word.parse::<u64>().ok());
     let (Some(what), Some(cases), Some(seed)) = (words.first(), number(1), number(2)) else {
-        eprintln!("usage: compare clock|engine CASES SEED [exact]");
+        eprintln!("usage: compare clock|engine|walk CASES SEED [exact]");
         exit(2);
     };
     let guard = Guard(if words.get(3).is_some_and(|word| word == "exact") { 0 } else { 64 });
@@ -189,6 +242,7 @@ fn main() {
     match what.as_str() {
         "clock" => (0..cases).for_each(|_| clock_case(&mut rng, guard, &mut met)),
         "engine" => engine_cases(cases, &mut rng, guard, &mut met),
+        "walk" => (0..cases).for_each(|_| walk_case(&yards::random(&mut rng), &mut rng, guard, &mut met)),
         "seeds" => {
             let folder = words.get(3).map_or(Path::new("."), Path::new);
             if let Err(error) = write_seeds(cases, &mut rng, folder) {
@@ -198,7 +252,7 @@ fn main() {
             return;
         }
         _ => {
-            eprintln!("compare: {what} is neither clock, engine nor seeds");
+            eprintln!("compare: {what} is none of clock, engine, walk and seeds");
             exit(2);
         }
     }
