@@ -26,6 +26,7 @@ use Rattle.route.specs.declared.Chosen.the-variants.{Found, Nothing}
 use Rattle.route.specs.Choice.{whichRoute}
 use Rattle.route.proofs.Laws.{chosen-kept}
 use Rattle.response.specs.declared.View.{View}
+use Rattle.response.specs.declared.Incoming.{Incoming}
 use Rattle.response.specs.declared.Note.{Note}
 use Rattle.response.specs.Fill.{allRouters, upstreamOf, blockOf, endsFor, endsTrace}
 use Rattle.response.specs.Bytes.{blockBytes}
@@ -141,6 +142,23 @@ module _ (a : Arrival) (time : ℕ) (sheet recent : List ℕ) (output note : ℕ
   sent-on-grows =
       sent-cases a time sheet (λ (s : Sent). s .answer ≡ sentOn → Grown a time sheet s)
       (λ h e. absurd (omega arith)) (λ h e f. absurd (omega arith)) (λ h e f. grown h e)
+
+  -- whatever is sent goes to a unicast address, or to 224.0.0.2
+  pub sent-to : (unicast (sentBy a time sheet .note .destination) ≡ true) ⊎ (sentBy a time sheet .note .destination ≡ allRouters)
+  sent-to =
+      sent-cases a time sheet (λ (s : Sent). (unicast (s .note .destination) ≡ true) ⊎ (s .note .destination ≡ allRouters))
+      (λ h. inl (t .message .client)) (λ h e. inl (t .message .client)) (λ h e. grown h e .goes)
+
+-- the record gives the length of what is sent
+noted-on : (c : Chosen) (i : Incoming) (n : ℕ) → noteOn c i n .length ≡ n
+noted-on Nothing i n = refl
+noted-on (Found r) i n = refl
+
+pub sent-noted : (a : Arrival) (time : ℕ) (sheet : List ℕ) → sentBy a time sheet .note .length ≡ length (sentBy a time sheet .message)
+sent-noted a time sheet =
+    let v = viewOf a time sheet in
+    sent-cases a time sheet (λ (s : Sent). s .note .length ≡ length (s .message)) (λ h. refl) (λ h e. refl)
+    (λ h e. noted-on (v .chosen) (v .incoming) (length (longerMessage request (a .message) (blockOf v))))
 
 -- a Request with fewer blocks than hops, delivered with TTL 255 to the interface that holds its destination, is not dropped
 pub no-later-drop : (m : List ℕ) (destination i : ℕ) (sheet : List ℕ) → Accepted m → headerOf m .kind ≡ request → standardCount m < headerOf m .hops

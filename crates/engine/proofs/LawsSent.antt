@@ -72,6 +72,11 @@ pub block-standard : (b : Block) → StandardBlock (blockBytes b)
 unfolding blockBytes be bytes
 block-standard b = record { long = refl; kind = refl; size = refl }
 
+-- one type 4 block more
+pub longer-blocks : (kind : ℕ) (m : List ℕ) (b : Block) → Accepted m → standardCount (longerMessage kind m b) ≡ standardCount m + 1
+longer-blocks kind m b accepts =
+    rw (longer-as kind m b (omega (arith, accepts .low))) (sent-count m accepts (blockBytes b) (block-standard b) kind)
+
 -- without room the type 4 blocks stay where they are
 pub full-standards : (m : List ℕ) → Accepted m → most < length m + standardSize → standards (fullMessage m) ≡ standards m
 full-standards m accepts full =
@@ -160,13 +165,10 @@ module _ (a : Arrival) (time : ℕ) (sheet : List ℕ) where
         (λ h. rw (length-set (set m 0 reply) (lastStandard m + codeOffset) noSpace, length-set m 0 reply) (accepts .high))
         (λ h e. rw (longer-length reply m block) h) (λ h e. rw (longer-length request m block) h)
 
-    more : (kind : ℕ) → standardCount (longerMessage kind m block) ≡ standardCount m + 1
-    more kind = rw (longer-as kind m block (omega (arith, accepts .low))) (sent-count m accepts (blockBytes block) (block-standard block) kind)
-
     pub sent-blocks : length m + standardSize ≤ most → standardCount (sentBy a time sheet .message) ≡ standardCount m + 1
     sent-blocks room =
         sent-cases (λ (s : Sent). standardCount (s .message) ≡ standardCount m + 1)
-        (λ h. absurd (omega arith)) (λ h e. more reply) (λ h e. more request)
+        (λ h. absurd (omega arith)) (λ h e. longer-blocks reply m block accepts) (λ h e. longer-blocks request m block accepts)
 
     pub sent-full-blocks : most < length m + standardSize → standards (sentBy a time sheet .message) ≡ standards m
     sent-full-blocks full = rw (sent-full full .0) (full-standards m accepts full)

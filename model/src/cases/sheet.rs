@@ -353,6 +353,7 @@ impl Cases {
             self.with_bytes(Some(Rule::UnusedBytes), &format!("unused byte {at} {value}"), &two, &[(at, value)]);
         }
         self.block_orders();
+        self.no_interface_block();
     }
 
     /// Bytes 0 to 3 of each block of a sheet of two interface and two route blocks.
@@ -403,6 +404,17 @@ impl Cases {
         }
         for order in [&[0][..], &[1, 0], &[0, 2], &[0, 1, 3, 2], &[1, 0, 3, 3, 2]] {
             self.kept(&format!("block order {order:?}"), &renumbered(&blocks, order));
+        }
+    }
+
+    /// Route blocks alone, whose routes name no interface: only an interface block is missing.
+    fn no_interface_block(&mut self) {
+        for routes in [1, 9, 10] {
+            let unknown = RouteEntry::source_only(ip(203, 0, 113, 0), 24);
+            let plan = SheetPlan { routes: vec![unknown; routes], ..SheetPlan::default() };
+            self.broken(Rule::BlockOrder, &format!("no interface block, {routes} routes"), &plan.to_bytes());
+            let with_one = SheetPlan { interfaces: vec![interface(0)], ..plan };
+            self.kept(&format!("one interface, {routes} routes"), &with_one.to_bytes());
         }
     }
 

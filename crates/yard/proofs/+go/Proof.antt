@@ -1,0 +1,96 @@
+use borrow.Author.Needs.{needs}
+use Rattle.yard.specs.Walk.{unused}
+use Rattle.yard.proofs.Rows.{message-within, message-measured, message-short, walk-over, unused-falls, ready-next, walk-goes-on, steps-fit}
+use Prim.Native.Nat.{ℕ, _<_}
+use borrow.Fn.Kinds.{In}
+use borrow.Fn.PlainCycle.{Measures, is, falls, and}
+use Rattle.yard.proofs.go.Reads as go
+use Rattle.yard.proofs.go.Kinds as go-kinds
+use Rattle.yard.proofs.+go.Lts-go as go-lts
+use Rattle.yard.proofs.enter.Reads as enter-reads
+use Rattle.yard.proofs.finish.Reads as finish-reads
+use Rattle.yard.proofs.+go.{statement}
+use Rattle.yard.proofs.+go.Tie.{close}
+
+abbrev μ-go : Measures 4 go-kinds.ps ℕ
+μ-go κs a = unused (a .1 .1 .1 .0 .now)
+
+abbrev go-at : ℕ → In 4 go-kinds.ps
+go-at t = and 4 go-kinds.ps (is 4 go-kinds.ps μ-go t) go.Pre
+
+abbrev go-below : ℕ → In 4 go-kinds.ps
+go-below t = and 4 go-kinds.ps (falls 4 go-kinds.ps _<_ μ-go t) go.Pre
+
+-- what the callees ask and tell
+abbrev calls : ℕ → go-lts.Claims
+calls t = (enter-reads.Asked, enter-reads.Learnt, finish-reads.Asked, finish-reads.Learnt, go-below t, go.Post)
+
+-- src/lib.rt:256:9
+go-slice-aggregate-enter : (t : ℕ) → go-lts.Need-slice-aggregate-enter (calls t) (go-at t) go.Post
+go-slice-aggregate-enter t c = search needs
+
+-- src/lib.rt:248:9
+go-enter-requires : (t : ℕ) → go-lts.Need-enter-requires (calls t) (go-at t) go.Post
+go-enter-requires t c κs = search needs
+
+-- src/lib.rt:260:30
+go-array-share-prefix-sent : (t : ℕ) → go-lts.Need-array-share-prefix-sent (calls t) (go-at t) go.Post
+go-array-share-prefix-sent t c = search message-within
+
+-- src/lib.rt:260:30
+go-slice-aggregate-finish : (t : ℕ) → go-lts.Need-slice-aggregate-finish (calls t) (go-at t) go.Post
+go-slice-aggregate-finish t c = search message-measured
+
+-- src/lib.rt:260:9
+go-finish-requires : (t : ℕ) → go-lts.Need-finish-requires (calls t) (go-at t) go.Post
+go-finish-requires t c κs = (search message-short, search needs)
+
+-- src/lib.rt:260:9
+go-same-length : (t : ℕ) → go-lts.Need-same-length (calls t) (go-at t) go.Post
+go-same-length t c = search needs
+
+-- src/lib.rt:260:9
+go-returns : (t : ℕ) → go-lts.Need-returns (calls t) (go-at t) go.Post
+go-returns t c = search walk-over
+
+-- src/lib.rt:266:9
+go-array-share-prefix-sent-2 : (t : ℕ) → go-lts.Need-array-share-prefix-sent-2 (calls t) (go-at t) go.Post
+go-array-share-prefix-sent-2 t c = search message-within
+
+-- src/lib.rt:266:9
+go-slice-aggregate-go : (t : ℕ) → go-lts.Need-slice-aggregate-go (calls t) (go-at t) go.Post
+go-slice-aggregate-go t c = search message-measured
+
+-- src/lib.rt:262:9
+go-go-requires : (t : ℕ) → go-lts.Need-go-requires (calls t) (go-at t) go.Post
+go-go-requires t c κs = (search unused-falls, (search ready-next, search needs))
+
+-- src/lib.rt:274:16
+go-add-t24 : (t : ℕ) → go-lts.Need-add-t24 (calls t) (go-at t) go.Post
+go-add-t24 t c = record { fits = search steps-fit }
+
+-- src/lib.rt:231:1
+go-same-length-2 : (t : ℕ) → go-lts.Need-same-length-2 (calls t) (go-at t) go.Post
+go-same-length-2 t c = search needs
+
+-- src/lib.rt:231:1
+go-returns-2 : (t : ℕ) → go-lts.Need-returns-2 (calls t) (go-at t) go.Post
+go-returns-2 t c = search walk-goes-on
+
+pub +go-spec : {M : Type 1} → statement M
++go-spec = close μ-go λ t. go-lts.spec (calls t)
+    (go-at t)
+    go.Post
+    (go-slice-aggregate-enter t)
+    (go-enter-requires t)
+    (go-array-share-prefix-sent t)
+    (go-slice-aggregate-finish t)
+    (go-finish-requires t)
+    (go-same-length t)
+    (go-returns t)
+    (go-array-share-prefix-sent-2 t)
+    (go-slice-aggregate-go t)
+    (go-go-requires t)
+    (go-add-t24 t)
+    (go-same-length-2 t)
+    (go-returns-2 t)

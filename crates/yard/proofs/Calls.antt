@@ -1,0 +1,114 @@
+-- Laws of a call of the engine, by its promise alone: what it answers and sends, and what is read from its record.
+use Prim.Native.Nat.{ℕ, suc, _+_, _*_, _/_, _-_, _≤_, _<_}
+use mathlib.Core.Bool.{Bool, true, false, not, _&&_}
+use mathlib.Core.List.{List, []}
+use mathlib.Core.Logic.{_⊎_, inl, inr, ⊎-elim}
+use mathlib.Core.Path.{_≡_, refl, sym, ap, _∙_}
+use native.Mathlib.Omega.{arith}
+use borrow.Author.Tests.{eq-eqb, ne-eqb, eqb-true, eqb-false, leb-true}
+use lib.Dec.{leb, eqb, lit≤}
+use lib.ListN.{length, take, drop, getD, replicate}
+use Rattle.wire.specs.Numbers.{be, be16, be32, bytes}
+use Rattle.wire.specs.Parts.{splice}
+use Rattle.wire.specs.Addresses.{unicast, multicast}
+use Rattle.wire.proofs.Flags.{decided, both-of}
+use Rattle.wire.proofs.Laws.{be-within}
+use Rattle.recent.specs.Entries.{empty}
+use Rattle.response.specs.declared.Note.{Note}
+use Rattle.response.specs.Fill.{allRouters}
+use Rattle.response.specs.Bytes.{noteBytes}
+use Rattle.response.proofs.Laws.{note-length}
+use Rattle.message.specs.Format.{most}
+use Rattle.message.specs.Header.{headerOf}
+use Rattle.drops.specs.Arrival.{Arrival, arrival}
+use Rattle.drops.specs.Drop.{noteSize, dropOf}
+use Rattle.engine.specs.Answer.{Sent, sentOn, sentBy}
+use Rattle.engine.specs.Step.{Outcome, outcome, answeredBy, stepOf, StepMeets}
+use Rattle.engine.proofs.LawsDrop.{Taken, taken, drop-changes-nothing, taken-is-sent}
+use Rattle.engine.proofs.LawsSent.{sent-fits}
+use Rattle.engine.proofs.LawsOn.{sent-to, sent-noted}
+use Rattle.yard.specs.declared.Call.{Call}
+use Rattle.yard.specs.Walk.{notSent, sentFor}
+use Rattle.yard.specs.Ready.{Called}
+
+-- the record's length and destination are read back
+module _ (n : Note) where
+  length-read : n .length < 65536 → be16 (noteBytes n) 0 ≡ n .length
+  unfolding noteBytes be bytes
+  length-read h = omega arith
+
+  destination-read : n .destination < 4294967296 → be32 (noteBytes n) 2 ≡ n .destination
+  unfolding noteBytes be bytes
+  destination-read h = omega arith
+
+-- a destination fits 32 bits
+to-fits : (a : ℕ) → (unicast a ≡ true) ⊎ (a ≡ allRouters) → a < 4294967296
+to-fits a (inl e) =
+    let p = both-of (leb 1 (a / 16777216) && leb (a / 16777216) 223) (not (eqb (a / 16777216) 127)) e in
+    omega (arith, leb-true (a / 16777216) 223 (both-of (leb 1 (a / 16777216)) (leb (a / 16777216) 223) (p .0) .1))
+to-fits a (inr e) = omega arith
+
+-- what is sent for what arrives: a drop's number, or the answer
+module _ (sheet : List ℕ) (time : ℕ) (a : Arrival) where
+  pub sent-dropped : (dropOf a sheet empty most noteSize ≡ 0 → ⊥) → sentFor sheet time a ≡ notSent (dropOf a sheet empty most noteSize)
+  unfolding sentFor
+  sent-dropped some = rw (ne-eqb (dropOf a sheet empty most noteSize) 0 some)
+
+  pub sent-taken : dropOf a sheet empty most noteSize ≡ 0 → sentFor sheet time a ≡ sentBy a time sheet
+  unfolding sentFor
+  sent-taken none = rw (eq-eqb (dropOf a sheet empty most noteSize) 0 none)
+
+-- an empty list and an empty record, as they are lent
+abbrev blank : List ℕ
+blank = replicate 16 0
+
+module _ (sheet : List ℕ) (time : ℕ) (a : Arrival) (sent recent s1 n1 : List ℕ) (answer : ℕ) (long : length sent ≡ 1472)
+    (meets : outcome answer recent s1 n1 ≡ stepOf a time sheet empty sent blank) where
+  number-same : dropOf a sheet empty (length sent) (length blank) ≡ dropOf a sheet empty most noteSize
+  number-same = rw long
+
+  called-dropped : (dropOf a sheet empty most noteSize ≡ 0 → ⊥) → (x y : ℕ) → x ≡ be16 n1 0 → y ≡ be32 n1 2
+      → Called (sentFor sheet time a) sent (record { answer = answer; length = x; to = y }) s1
+  unfolding be splice
+  called-dropped some x y e f =
+      let is : outcome answer recent s1 n1 ≡ outcome (dropOf a sheet empty (length sent) (length blank)) empty sent blank =
+      meets ∙ drop-changes-nothing a time sheet empty sent blank (λ z. some (sym number-same ∙ z)) in
+      let note : n1 ≡ blank = ap (λ (o : Outcome). o .note) is in
+      rw (sent-dropped sheet time a some)
+      (record {
+        answer = ap (λ (o : Outcome). o .answer) is ∙ number-same;
+        long = e ∙ rw note;
+        to = f ∙ rw note;
+        sends = ap (λ (o : Outcome). o .output) is;
+      })
+
+  called-answered : dropOf a sheet empty most noteSize ≡ 0 → (x y : ℕ) → x ≡ be16 n1 0 → y ≡ be32 n1 2
+      → Called (sentFor sheet time a) sent (record { answer = answer; length = x; to = y }) s1
+  called-answered none x y e f =
+      let k = sentBy a time sheet in
+      let t = taken a sheet empty most noteSize none in
+      let is : outcome answer recent s1 n1 ≡ answeredBy k (headerOf (a .message)) empty sent blank =
+      meets ∙ taken-is-sent a time sheet empty sent blank (number-same ∙ none) in
+      let note : n1 ≡ splice blank 0 (noteBytes (k .note)) = ap (λ (o : Outcome). o .note) is in
+      let fits : 0 + length (noteBytes (k .note)) ≤ length blank = omega (arith, note-length (k .note)) in
+      let room : k .note .length < 65536 = omega (arith, sent-noted a time sheet, sent-fits a time sheet (t .message)) in
+      rw (sent-taken sheet time a none)
+      (record {
+        answer = ap (λ (o : Outcome). o .answer) is;
+        long =
+            e
+            ∙ rw note (be-within blank 0 (noteBytes (k .note)) fits 1 0 (omega (arith, note-length (k .note))))
+            ∙ length-read (k .note) room
+            ∙ sent-noted a time sheet;
+        to =
+            f
+            ∙ rw note (be-within blank 0 (noteBytes (k .note)) fits 2 2 (omega (arith, note-length (k .note))))
+            ∙ destination-read (k .note) (to-fits (k .note .destination) (sent-to a time sheet empty most noteSize t));
+        sends = ap (λ (o : Outcome). o .output) is;
+      })
+
+  -- the call of the engine
+  pub called : (x y : ℕ) → x ≡ be16 n1 0 → y ≡ be32 n1 2 → Called (sentFor sheet time a) sent (record { answer = answer; length = x; to = y }) s1
+  called x y e f =
+      ⊎-elim (λ z. called-answered (eqb-true _ _ z) x y e f) (λ z. called-dropped (eqb-false _ _ z) x y e f)
+      (decided (eqb (dropOf a sheet empty most noteSize) 0))

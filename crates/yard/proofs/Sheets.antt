@@ -1,0 +1,127 @@
+-- Laws of a yard: its sheets are checked one by one, and the routers are asked in their order who holds an address.
+use Prim.Native.Nat.{ℕ, zero, suc, _+_, _*_, _-_, _/_, _%_, _≤_, _<_}
+use mathlib.Core.Bool.{Bool, true, false, not, _&&_}
+use mathlib.Core.List.{List}
+use mathlib.Core.Path.{_≡_, refl, sym, ap, _∙_}
+use native.Mathlib.Omega.{arith}
+use native.Mathlib.Nat.{add-sub-cancel-left}
+use native.Mathlib.Numerals.{add-one}
+use borrow.Author.Tests.{leb-true, eqb-true, not-true, not-false}
+use lib.Dec.{leb, eqb}
+use lib.ListN.{length, take, drop}
+use Rattle.wire.proofs.Flags.{both-of}
+use Rattle.sheet.specs.Every.{every}
+use Rattle.sheet.specs.Sheet.{layoutOf}
+use Rattle.sheet.specs.Tables.{holderOf}
+use Rattle.sheet.specs.declared.layout.Layout.{Layout}
+use Rattle.sheet.specs.declared.tables.Found.{Found}
+use Rattle.sheet.specs.declared.tables.Found.the-variants.{At, Nothing}
+use Rattle.sheet.proofs.Entries.{interfaces-few}
+use Rattle.sheet.proofs.Holders.{holder-there}
+use Rattle.yard.specs.declared.Holder.{Holder}
+use Rattle.yard.specs.declared.Holder.the-variants.{Held, Nobody}
+use Rattle.yard.specs.Yard.{sheetSize, mostRouters, routersIn, sheetAt, validAt, sizeOk, yardOk, heldBy, lowestFrom, holderIn}
+
+-- the part of a yard that is lent for router i
+pub lent-sheet : (yard : List ℕ) (i : ℕ) → take (1024 * i + 1024 - 1024 * i) (drop (1024 * i) yard) ≡ sheetAt yard i
+unfolding sheetAt
+lent-sheet yard i = rw add-sub-cancel-left
+
+-- one sheet more is checked
+pub checked-more : (yard : List ℕ) (i : ℕ) (ok : Bool) (l : Layout) → ok ≡ every (validAt yard) i
+    → l ≡ layoutOf (take (1024 * i + 1024 - 1024 * i) (drop (1024 * i) yard)) → (ok && l .valid) ≡ every (validAt yard) (i + 1)
+unfolding every
+checked-more yard i ok l e f = rw (add-one, ← e, f, lent-sheet yard i)
+
+pub checked-all : (yard : List ℕ) (n i : ℕ) (ok : Bool) → ok ≡ every (validAt yard) i → i ≤ n → n ≤ i → ok ≡ every (validAt yard) n
+checked-all yard n i ok e h l = let q : i ≡ n = omega arith in e ∙ ap (every (validAt yard)) q
+
+-- the sizes of a yard
+pub record Sized (size : ℕ) : Type 0 where
+  pub whole : 1024 * (size / 1024) ≤ size
+  pub some : 1 ≤ size / 1024
+  pub few : size / 1024 ≤ 32
+
+pub sized : (size : ℕ) → sizeOk size ≡ true → Sized size
+sized size e =
+    let p = both-of (eqb (size % 1024) 0 && leb 1 (size / 1024)) (leb (size / 1024) 32) e in
+    let q = both-of (eqb (size % 1024) 0) (leb 1 (size / 1024)) (p .0) in
+    record { whole = omega arith; some = leb-true 1 (size / 1024) (q .1); few = leb-true (size / 1024) 32 (p .1) }
+
+module _ (yard : List ℕ) (size : Bool) (told : size ≡ sizeOk (length yard)) where
+  pub wrong-size : not size ≡ true → false ≡ yardOk yard
+  unfolding yardOk
+  wrong-size e = rw (← told, not-true size e)
+
+  module _ (right : not size ≡ false) where
+    yard-sized : Sized (length yard)
+    yard-sized = sized (length yard) (sym told ∙ not-false size right)
+
+    pub sheets-few : length yard / 1024 ≤ 32
+    sheets-few = yard-sized .few
+
+    pub yard-checked : (ok : Bool) → ok ≡ every (validAt yard) (length yard / 1024) → ok ≡ yardOk yard
+    unfolding yardOk
+    yard-checked ok e = rw (← told, not-false size right) e
+
+-- a yard that is right: its sizes, and each of its sheets
+pub yard-right : (yard : List ℕ) → yardOk yard ≡ true → Sized (length yard)
+unfolding yardOk
+yard-right yard e = sized (length yard) (both-of (sizeOk (length yard)) _ e .0)
+
+-- the whole search is the search from router i on
+module _ (yard : List ℕ) (address n : ℕ) where
+  pub search-start : n ≡ routersIn yard → holderIn yard address ≡ lowestFrom yard address 0 (n - 0)
+  unfolding holderIn
+  search-start e = let z : n - 0 ≡ routersIn yard = omega arith in rw z
+
+  module _ (i : ℕ) (so-far : holderIn yard address ≡ lowestFrom yard address i (n - i)) where
+    step : i < n → holderIn yard address ≡ heldBy i (holderOf (sheetAt yard i) address) (lowestFrom yard address (i + 1) (n - (i + 1)))
+    unfolding lowestFrom
+    step h = let e : n - i ≡ suc (n - (i + 1)) = omega arith in so-far ∙ rw e
+
+    module _ (found : Found) (told : found ≡ holderOf (take (1024 * i + 1024 - 1024 * i) (drop (1024 * i) yard)) address) (here : i < n) where
+      asked : holderOf (sheetAt yard i) address ≡ found
+      asked = sym (told ∙ rw (lent-sheet yard i))
+
+      pub search-found : (k : ℕ) → found ≡ At k → Held i k ≡ holderIn yard address
+      search-found k e = rw (step here, asked, e)
+
+      pub search-on : found ≡ Nothing → holderIn yard address ≡ lowestFrom yard address (i + 1) (n - (i + 1))
+      search-on e = step here ∙ rw (asked, e)
+
+    pub search-none : n ≤ i → Nobody ≡ holderIn yard address
+    unfolding lowestFrom
+    search-none h = let e : n - i ≡ 0 = omega arith in rw (so-far, e)
+
+-- who is found is a router of the yard, and one of its few interfaces, which holds the address
+pub record Holds (yard : List ℕ) (address from end i k : ℕ) : Type 0 where
+  pub low : from ≤ i
+  pub there : i < end
+  pub few : k < 64
+  pub holds : holderOf (sheetAt yard i) address ≡ At k
+
+found-at : (yard : List ℕ) (address n from i k : ℕ) → lowestFrom yard address from n ≡ Held i k → Holds yard address from (from + n) i k
+unfolding lowestFrom
+found-at yard address zero from i k e = let z : _≡_ {A = ℕ} 0 1 = cc in absurd (omega arith)
+found-at yard address (suc n) from i k e = by-answer (holderOf (sheetAt yard from) address) refl e (λ f. found-at yard address n (from + 1) i k f) where
+  by-answer : (f : Found) → holderOf (sheetAt yard from) address ≡ f → heldBy from f (lowestFrom yard address (from + 1) n) ≡ Held i k
+      → (lowestFrom yard address (from + 1) n ≡ Held i k → Holds yard address (from + 1) (from + 1 + n) i k) → Holds yard address from (from + suc n) i k
+  by-answer (At j) q h later =
+      let here : from ≡ i = cc in
+      let found : j ≡ k = cc in
+      record {
+        low = omega arith;
+        there = omega arith;
+        few = omega (arith, holder-there (sheetAt yard from) address j q, interfaces-few (sheetAt yard from));
+        holds = rw (← here, ← found) q;
+      }
+  by-answer Nothing q h later =
+      let l = later h in
+      record { low = omega (arith, l .low); there = omega (arith, l .there); few = l .few; holds = l .holds }
+
+pub holder-found : (yard : List ℕ) (address i k : ℕ) → holderIn yard address ≡ Held i k → Holds yard address 0 (routersIn yard) i k
+unfolding holderIn
+holder-found yard address i k e =
+    let h = found-at yard address (routersIn yard) 0 i k e in
+    record { low = h .low; there = omega (arith, h .there); few = h .few; holds = h .holds }

@@ -1,0 +1,199 @@
+-- Laws of one turn of the walk: it ends here, or it goes on to the router that holds the destination, which does not drop what
+-- arrives, and the hops not yet used are one fewer.
+use Prim.Native.Nat.{ℕ, suc, _+_, _-_, _≤_, _<_}
+use mathlib.Core.Bool.{Bool, true, false}
+use mathlib.Core.List.{List, [], _∷_}
+use mathlib.Core.Logic.{_⊎_, inl, inr, ⊎-elim}
+use mathlib.Core.Path.{_≡_, refl, sym, ap, _∙_}
+use native.Mathlib.Omega.{arith}
+use borrow.Author.Tests.{eq-eqb, ne-eqb, eqb-true, eqb-false}
+use lib.Dec.{eqb}
+use lib.ListN.{length, getD}
+use Rattle.wire.specs.Addresses.{multicast}
+use Rattle.wire.proofs.Flags.{decided}
+use Rattle.recent.specs.Entries.{empty}
+use Rattle.response.specs.declared.Block.{Block}
+use Rattle.response.specs.Fill.{blockOf}
+use Rattle.message.specs.Format.{most, request, reply, standardSize}
+use Rattle.message.specs.Header.{headerOf}
+use Rattle.drops.specs.Arrival.{Arrival, arrival}
+use Rattle.drops.specs.Drop.{noteSize, dropOf}
+use Rattle.engine.specs.View.{viewOf}
+use Rattle.engine.specs.Answer.{Sent, sentOn, sentHome, fullMessage, longerMessage, sentBy}
+use Rattle.engine.proofs.LawsDrop.{Taken, taken, drop-numbers}
+use Rattle.engine.proofs.LawsSent.{sent-cases, sent-answer, sent-fits}
+use Rattle.engine.proofs.LawsOn.{Grown, sent-on-grows, no-later-drop}
+use Rattle.yard.specs.declared.Holder.{Holder}
+use Rattle.yard.specs.declared.Holder.the-variants.{Held, Nobody}
+use Rattle.yard.specs.Yard.{routersIn, sheetAt, holderIn}
+use Rattle.yard.specs.Walk.{toGroup, nobodyThere, nearTtl, unused, Visit, visit, sentFor, sentAt, endBy, endOf, nextBy, nextOf, ends, entered, walkBy, walkFrom}
+use Rattle.yard.proofs.Sheets.{Holds, holder-found}
+use Rattle.yard.proofs.Calls.{sent-dropped, sent-taken}
+
+-- the router of a visit drops nothing
+abbrev pub Accepts : List ℕ → Visit → Type 0
+Accepts yard v = dropOf (v .arrival) (sheetAt yard (v .router)) empty most noteSize ≡ 0
+
+-- the block that the engine's definition gives for a visit: of that router, and of the message that it received
+abbrev pub blockFor : List ℕ → List ℕ → Visit → Block
+blockFor yard times v = blockOf (viewOf (v .arrival) (getD times (v .router) 0) (sheetAt yard (v .router)))
+
+-- what becomes of a Request sent on
+pub record Reaches (yard : List ℕ) (sent : Sent) : Type 0 where
+  pub router : ℕ
+  pub interface : ℕ
+  pub held : holderIn yard (sent .note .destination) ≡ Held router interface
+  pub on : endOf yard sent ≡ sentOn
+
+module _ (yard : List ℕ) (sent : Sent) where
+  pub end-not-on : (sent .answer ≡ sentOn → ⊥) → endOf yard sent ≡ sent .answer
+  unfolding endOf
+  end-not-on h = rw (ne-eqb (sent .answer) sentOn h)
+
+  module _ (on : sent .answer ≡ sentOn) where
+    pub end-group : multicast (sent .note .destination) ≡ true → endOf yard sent ≡ toGroup
+    unfolding endOf
+    end-group g = rw (eq-eqb (sent .answer) sentOn on, g)
+
+    pub end-held : multicast (sent .note .destination) ≡ false → endOf yard sent ≡ endBy (holderIn yard (sent .note .destination))
+    unfolding endOf
+    end-held g = rw (eq-eqb (sent .answer) sentOn on, g)
+
+    -- 102, 103, or it reaches a router
+    pub end-on : ((endOf yard sent ≡ toGroup) ⊎ (endOf yard sent ≡ nobodyThere)) ⊎ Reaches yard sent
+    end-on =
+        ⊎-elim (λ g. inl (inl (end-group g)))
+        (λ g. by-holder (end-held g) (holderIn yard (sent .note .destination)) refl)
+        (decided (multicast (sent .note .destination))) where
+          by-holder : endOf yard sent ≡ endBy (holderIn yard (sent .note .destination)) → (h : Holder) → holderIn yard (sent .note .destination) ≡ h
+              → ((endOf yard sent ≡ toGroup) ⊎ (endOf yard sent ≡ nobodyThere)) ⊎ Reaches yard sent
+          by-holder e (Held i k) q = inr (record { router = i; interface = k; held = q; on = e ∙ rw q })
+          by-holder e Nobody q = inl (inr (e ∙ rw q))
+
+-- a visit from which the walk goes on
+pub record Onward (yard times : List ℕ) (v : Visit) : Type 0 where
+  pub accepts : Accepts yard v
+  pub grown : Grown (v .arrival) (getD times (v .router) 0) (sheetAt yard (v .router)) (sentAt yard times v)
+  pub reaches : Reaches yard (sentAt yard times v)
+
+-- how a walk ends at a router that received m and gives a block: 101 a Reply, without room for the block or with it; 102 or
+-- 103 the Request that goes no further
+pub data Ending (m : List ℕ) (b : Block) : ℕ → List ℕ → Type 0 where
+  full : most < length m + standardSize → Ending m b sentHome (fullMessage m)
+  home : length m + standardSize ≤ most → Ending m b sentHome (longerMessage reply m b)
+  group : length m + standardSize ≤ most → Ending m b toGroup (longerMessage request m b)
+  nobody : length m + standardSize ≤ most → Ending m b nobodyThere (longerMessage request m b)
+
+ending-as : (m : List ℕ) (b : Block) (e e′ : ℕ) (last last′ : List ℕ) → e ≡ e′ → last ≡ last′ → Ending m b e′ last′ → Ending m b e last
+ending-as m b e e′ last last′ p q x = rw (p, q) x
+
+module _ (yard times : List ℕ) (v : Visit) where
+  abbrev sent : Sent
+  sent = sentAt yard times v
+
+  abbrev here : Sent
+  here = sentBy (v .arrival) (getD times (v .router) 0) (sheetAt yard (v .router))
+
+  abbrev m : List ℕ
+  m = v .arrival .message
+
+  sent-here : Accepts yard v → sent ≡ here
+  sent-here = sent-taken (sheetAt yard (v .router)) (getD times (v .router) 0) (v .arrival)
+
+  takes : Accepts yard v → Taken (v .arrival) (sheetAt yard (v .router)) empty most noteSize
+  takes = taken (v .arrival) (sheetAt yard (v .router)) empty most noteSize
+
+  -- what sends on does not drop
+  on-accepts : sent .answer ≡ sentOn → Accepts yard v
+  on-accepts on =
+      let number = dropOf (v .arrival) (sheetAt yard (v .router)) empty most noteSize in
+      ⊎-elim (λ z. eqb-true number 0 z)
+      (λ z.
+      let dropped : sent .answer ≡ number = ap (λ (s : Sent). s .answer) (sent-dropped (sheetAt yard (v .router)) (getD times (v .router) 0) (v .arrival) (eqb-false number 0 z)) in
+      absurd (omega (arith, drop-numbers (v .arrival) (sheetAt yard (v .router)) empty most noteSize)))
+      (decided (eqb number 0))
+
+  grows : Accepts yard v → sent .answer ≡ sentOn → Grown (v .arrival) (getD times (v .router) 0) (sheetAt yard (v .router)) sent
+  grows accepts on =
+      rw (sent-here accepts)
+      (sent-on-grows (v .arrival) (getD times (v .router) 0) (sheetAt yard (v .router)) empty most noteSize (takes accepts) (ap (λ (s : Sent). s .answer) (sym (sent-here accepts)) ∙ on))
+
+  -- where the end is 100 the walk goes on
+  pub goes-on : endOf yard sent ≡ sentOn → Onward yard times v
+  goes-on e = ⊎-elim (λ z. by-end (eqb-true _ _ z)) (λ z. absurd (eqb-false _ _ z (sym (end-not-on yard sent (eqb-false _ _ z)) ∙ e))) (decided (eqb (sent .answer) sentOn)) where
+    by-end : sent .answer ≡ sentOn → Onward yard times v
+    by-end on =
+        record {
+          accepts = on-accepts on;
+          grown = grows (on-accepts on) on;
+          reaches = ⊎-elim (λ x. ⊎-elim (λ g. absurd (omega arith)) (λ n. absurd (omega arith)) x) (λ r. r) (end-on yard sent on);
+        }
+
+  -- and where it is not, an accepted message ends it in one of the four ways
+  pub stops : Accepts yard v → (endOf yard sent ≡ sentOn → ⊥) → Ending m (blockFor yard times v) (endOf yard sent) (sent .message)
+  stops accepts e = ⊎-elim on home-again (sent-answer (v .arrival) (getD times (v .router) 0) (sheetAt yard (v .router))) where
+    as-here : sent .answer ≡ here .answer
+    as-here = ap (λ (s : Sent). s .answer) (sent-here accepts)
+
+    on : here .answer ≡ sentOn → Ending m (blockFor yard times v) (endOf yard sent) (sent .message)
+    on q =
+        let g = grows accepts (as-here ∙ q) in
+        ⊎-elim
+        (λ x. ⊎-elim (λ z. ending-as _ _ _ _ _ _ z (g .message) (group (g .room))) (λ z. ending-as _ _ _ _ _ _ z (g .message) (nobody (g .room))) x)
+        (λ r. absurd (e (r .on)))
+        (end-on yard sent (as-here ∙ q))
+
+    home-again : here .answer ≡ sentHome → Ending m (blockFor yard times v) (endOf yard sent) (sent .message)
+    home-again q =
+        let answer : sent .answer ≡ sentHome = as-here ∙ q in
+        let end : endOf yard sent ≡ sentHome = end-not-on yard sent (λ z. omega arith) ∙ answer in
+        let message : sent .message ≡ here .message = ap (λ (s : Sent). s .message) (sent-here accepts) in
+        ending-as _ _ _ _ _ _ end message
+        (sent-cases (v .arrival) (getD times (v .router) 0) (sheetAt yard (v .router))
+        (λ (s : Sent). s .answer ≡ sentHome → Ending m (blockFor yard times v) sentHome (s .message))
+        (λ h z. full h) (λ h x z. home h) (λ h x z. absurd (omega arith)) q)
+
+  -- what is sent fits, whatever arrives
+  pub sent-short : length (sent .message) ≤ most
+  sent-short =
+      let number = dropOf (v .arrival) (sheetAt yard (v .router)) empty most noteSize in
+      ⊎-elim
+      (λ z. rw (sent-here (eqb-true number 0 z)) (sent-fits (v .arrival) (getD times (v .router) 0) (sheetAt yard (v .router)) (takes (eqb-true number 0 z) .message)))
+      (λ z. rw (sent-dropped (sheetAt yard (v .router)) (getD times (v .router) 0) (v .arrival) (eqb-false number 0 z)) (omega arith))
+      (decided (eqb number 0))
+
+  -- the next visit
+  module _ (o : Onward yard times v) where
+    pub next-is : nextOf yard sent ≡ visit (o .reaches .router) (arrival (sent .message) (sent .note .destination) (o .reaches .interface) nearTtl)
+    next-is = rw (o .reaches .held)
+
+    pub next-there : o .reaches .router < routersIn yard
+    next-there = holder-found yard (sent .note .destination) (o .reaches .router) (o .reaches .interface) (o .reaches .held) .there
+
+    -- no later router drops
+    pub next-accepts : Accepts yard (nextOf yard sent)
+    next-accepts =
+        let g = o .grown in
+        let h = holder-found yard (sent .note .destination) (o .reaches .router) (o .reaches .interface) (o .reaches .held) in
+        rw next-is
+        (no-later-drop (sent .message) (sent .note .destination) (o .reaches .interface) (sheetAt yard (o .reaches .router)) (g .accepts) (rw (g .header)) (g .few) (h .holds))
+
+    pub falls : unused m ≡ suc (unused (nextOf yard sent .arrival .message))
+    falls = rw next-is (o .grown .falls)
+
+  -- one turn of the definition
+  pub walk-ends : (endOf yard sent ≡ sentOn → ⊥) → (n : ℕ) → walkBy (suc n) yard times v ≡ ends (endOf yard sent) v (sent .message)
+  unfolding walkBy
+  walk-ends e n = rw (ne-eqb (endOf yard sent) sentOn e)
+
+  pub walk-on : endOf yard sent ≡ sentOn → (n : ℕ) → walkBy (suc n) yard times v ≡ entered v (walkBy n yard times (nextOf yard sent))
+  unfolding walkBy
+  walk-on e n = rw (eq-eqb (endOf yard sent) sentOn e)
+
+  pub from-ends : (endOf yard sent ≡ sentOn → ⊥) → walkFrom yard times v ≡ ends (endOf yard sent) v (sent .message)
+  unfolding walkFrom
+  from-ends e = walk-ends e (unused m)
+
+  pub from-on : endOf yard sent ≡ sentOn → walkFrom yard times v ≡ entered v (walkFrom yard times (nextOf yard sent))
+  unfolding walkFrom
+  from-on e = walk-on e (unused m) ∙ rw (falls (goes-on e))

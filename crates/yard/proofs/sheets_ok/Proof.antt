@@ -1,0 +1,83 @@
+use Prim.Native.Nat.{_≤_, _-_}
+use mathlib.Core.Path.{_≡_}
+use native.Mathlib.Omega.{arith}
+use native.Mathlib.Numerals.{add-one}
+use borrow.Author.Needs.{needs}
+use mathlib.Core.Path.{refl}
+use Rattle.sheet.specs.Every.{every}
+use Rattle.yard.specs.Yard.{validAt}
+use Rattle.yard.proofs.Sheets.{checked-more, checked-all}
+use Rattle.yard.proofs.sheets_ok.Statement.{statement}
+use Rattle.yard.proofs.sheets_ok.Tie as tie
+use Rattle.yard.proofs.sheets_ok.Reads as reads
+use Rattle.yard.proofs.sheets_ok.Lts as lts
+use Rattle.sheet.proofs.check.Reads as check-reads
+
+abbrev Inv-loop : tie.InvT-loop
+Inv-loop yard n ok₀ i₀ ok i = (i ≤ n) × (ok ≡ every (validAt yard) i)
+
+abbrev μ-loop : tie.MeasureT-loop
+μ-loop yard n ok₀ i₀ ok i = n - i
+
+-- src/lib.rt:60:5
+loop-holds : tie.Need-loop-holds Inv-loop μ-loop
+unfolding every
+loop-holds c = (omega arith, refl)
+
+-- src/lib.rt:61:17
+mul-a : tie.Need-mul-a Inv-loop μ-loop
+mul-a c = omega arith
+
+-- src/lib.rt:62:17
+add-e : tie.Need-add-e Inv-loop μ-loop
+add-e c = omega arith
+
+-- src/lib.rt:63:35
+sub-check : tie.Need-sub-check Inv-loop μ-loop
+sub-check c = omega arith
+
+-- src/lib.rt:63:35
+part-check-start : tie.Need-part-check-start Inv-loop μ-loop
+part-check-start c = omega arith
+
+-- src/lib.rt:63:35
+part-check-end : tie.Need-part-check-end Inv-loop μ-loop
+part-check-end c = omega arith
+
+-- src/lib.rt:63:13
+check-requires : tie.Need-check-requires Inv-loop μ-loop
+check-requires c κs = search needs
+
+-- src/lib.rt:65:9
+add-i : tie.Need-add-i Inv-loop μ-loop
+add-i c = omega arith
+
+-- src/lib.rt:60:5
+loop-less : tie.Need-loop-less Inv-loop μ-loop
+loop-less c = omega arith
+
+-- src/lib.rt:60:5
+loop-again : tie.Need-loop-again Inv-loop μ-loop
+loop-again c = (omega arith, search checked-more)
+
+-- src/lib.rt:54:1
+returns : tie.Need-returns Inv-loop μ-loop
+returns c = search checked-all
+
+pub sheets-ok-spec : {M : Type 1} → statement M
+sheets-ok-spec =
+    tie.close
+    (tie.spec
+    Inv-loop
+    μ-loop
+    loop-holds
+    mul-a
+    add-e
+    sub-check
+    part-check-start
+    part-check-end
+    check-requires
+    add-i
+    loop-less
+    loop-again
+    returns)

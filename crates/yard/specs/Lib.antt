@@ -1,0 +1,4 @@
+-- A trace from router to router (document 01, "Walk").
+pub mod Yard
+pub mod Walk
+pub mod Ready

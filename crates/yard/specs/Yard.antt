@@ -1,0 +1,55 @@
+-- A yard (document 01, "Walk"): 1 to 32 sheets of 1024 bytes, one for each router, and who of them holds an address.
+use Prim.Native.Nat.{ℕ, zero, suc, _+_, _*_, _/_, _%_}
+use mathlib.Core.Bool.{Bool, _&&_}
+use mathlib.Core.List.{List}
+use lib.Dec.{leb, eqb}
+use lib.ListN.{length}
+use Rattle.wire.specs.Parts.{part}
+use Rattle.sheet.specs.Every.{every}
+use Rattle.sheet.specs.Sheet.{layoutOf}
+use Rattle.sheet.specs.Tables.{holderOf}
+use Rattle.sheet.specs.declared.tables.Found.{Found}
+use Rattle.sheet.specs.declared.tables.Found.the-variants.{At, Nothing}
+use Rattle.yard.specs.declared.Holder.{Holder}
+use Rattle.yard.specs.declared.Holder.the-variants.{Held, Nobody}
+
+-- bytes of a router's sheet
+abbrev pub sheetSize : ℕ
+sheetSize = 1024
+
+abbrev pub mostRouters : ℕ
+mostRouters = 32
+
+-- how many routers there are, and the sheet of router i
+abbrev pub routersIn : List ℕ → ℕ
+routersIn yard = length yard / sheetSize
+
+unfoldable pub sheetAt : List ℕ → ℕ → List ℕ
+sheetAt yard i = part (sheetSize * i) sheetSize yard
+
+abbrev pub validAt : List ℕ → ℕ → Bool
+validAt yard i = layoutOf (sheetAt yard i) .valid
+
+-- 1 to 32 whole sheets
+abbrev pub sizeOk : ℕ → Bool
+sizeOk size = eqb (size % sheetSize) 0 && leb 1 (size / sheetSize) && leb (size / sheetSize) mostRouters
+
+-- and each of them valid
+unfoldable pub yardOk : List ℕ → Bool
+yardOk yard = sizeOk (length yard) && every (validAt yard) (routersIn yard)
+
+-- router i holds an address at the interface that was found, or else whoever of those after it does
+abbrev pub heldBy : ℕ → Found → Holder → Holder
+heldBy i (At k) later = Held i k
+heldBy i Nothing later = later
+
+-- the lowest of n routers, from router i on, that holds an address, and its lowest interface
+unfoldable pub lowestFrom : List ℕ → ℕ → ℕ → ℕ → Holder
+lowestFrom yard address i zero = Nobody
+lowestFrom yard address i (suc n) =
+    let later = lowestFrom yard address (i + 1) n in
+    heldBy i (holderOf (sheetAt yard i) address) later
+
+-- the lowest router and interface holding an address
+unfoldable pub holderIn : List ℕ → ℕ → Holder
+holderIn yard address = lowestFrom yard address 0 (routersIn yard)
