@@ -2,13 +2,16 @@
 use Prim.Native.Nat.{ℕ}
 use mathlib.Core.List.{List}
 use mathlib.Core.Path.{_≡_}
+use lib.ListN.{length}
 use Rattle.wire.proofs.Determined.{both-are}
 use Rattle.clock.specs.declared.Tick.{Tick}
 use Rattle.clock.specs.Clock.{clockOf, startOf, advanceOf, arrivalOf}
 use Rattle.clock.specs.Unix.{unixOf}
 use Rattle.drops.specs.Arrival.{arrival}
 use Rattle.engine.specs.Step.{Outcome, StepMeets}
+use Rattle.yard.specs.Walk.{Walk, visit, walkOf}
 use Rattle.servicebough.specs.Ticks.{TickMeets}
+use Rattle.servicebough.specs.Answers.{Handed, walkHanded}
 
 module _ (out : List ℕ) (n m : ℕ) (left left′ : List ℕ) where
   tick-settled : (k : Tick) → TickMeets k out n left → TickMeets k out m left′ → (n ≡ m) × (left ≡ left′)
@@ -31,3 +34,10 @@ module _ (message : List ℕ) (destination receiving ttl time : ℕ) (sheet rece
   pub bough-engine-step-determined : StepMeets (arrival message destination receiving ttl) time sheet recent output note a
       → StepMeets (arrival message destination receiving ttl) time sheet recent output note b → a ≡ b
   bough-engine-step-determined = both-are
+
+module _ (yard times message : List ℕ) (start receiving destination ttl : ℕ) (output answer : List ℕ) (a b : Handed) where
+  abbrev pub walked : Walk
+  walked = walkOf yard times (visit start (arrival message destination receiving ttl)) (length output)
+
+  pub bough-walk-determined : a ≡ walkHanded walked output answer → b ≡ walkHanded walked output answer → a ≡ b
+  bough-walk-determined = both-are

@@ -2,12 +2,17 @@
 // its caller but that what is written overlaps nothing else.
 use clock::Clock;
 use clock::Tick;
+use yard::Walked;
 ghost use mathlib.Core.Path.{_≡_};
+ghost use Prim.Native.Nat.{_≤_};
+ghost use lib.ListN.{length};
 ghost use Rattle.clock.specs.Clock.{clockOf, startOf, advanceOf, arrivalOf};
 ghost use Rattle.clock.specs.Unix.{unixOf};
 ghost use Rattle.drops.specs.Arrival.{arrival};
 ghost use Rattle.engine.specs.Step.{outcome, StepMeets};
+ghost use Rattle.yard.specs.Walk.{visit, walkOf};
 ghost use Rattle.servicebough.specs.Ticks.{TickMeets};
+ghost use Rattle.servicebough.specs.Answers.{answerLeft, handed, walkHanded};
 
 // Hands over what a reading gave: its number and, unless it was refused, 24 bytes.
 fn hand_over(k: Tick, out: &mut [u8]) -> u32
@@ -87,4 +92,52 @@ pub extern "C" fn bough_engine_step(
         output,
         note,
     )
+}
+
+// Writes what a walk answered into 16 bytes, unless it was refused or dropped.
+fn write_answer(w: Walked, answer: &mut [u8])
+    requires { ⌜ 16 ≤ length (now answer) ⌝ }
+    ensures { λ _. ⌜ now (answer .exit) ≡ answerLeft w (now (answer .entry)) ⌝ }
+{
+    if w.end < 101 {
+        return;
+    }
+    wire::put32(answer, 0, w.end);
+    wire::put32(answer, 4, w.steps);
+    wire::put32(answer, 8, w.blocks);
+    wire::put32(answer, 12, w.length);
+}
+
+// A Query walked through a yard.
+#[no_mangle]
+pub extern "C" fn bough_walk(
+    yard: &[u8],
+    times: &[u32],
+    message: &[u8],
+    start: u32,
+    receiving: u32,
+    destination: u32,
+    ttl: u32,
+    output: &mut [u8],
+    answer: &mut [u8],
+) -> u32
+    ensures { λ n. ⌜ handed n (now (output .exit)) (now (answer .exit))
+        ≡ walkHanded (walkOf (now (yard .entry)) (now (times .entry)) (visit start (arrival (now (message .entry)) destination receiving ttl)) (length (now (output .entry))))
+        (now (output .entry)) (now (answer .entry)) ⌝ }
+{
+    if answer.len() < 16 {
+        return 1;
+    }
+    let w = yard::walk(
+        yard,
+        times,
+        message,
+        start,
+        receiving,
+        destination,
+        ttl,
+        output,
+    );
+    write_answer(w, answer);
+    w.end
 }
