@@ -70,10 +70,54 @@ static void engine_entry(void)
                              sizeof output, record, sizeof record) == BOUGH_DROP_SHEET, "a damaged sheet");
 }
 
+/* One router of a yard, whose one route goes on to `upstream`. */
+static void router(uint8_t *sheet, uint8_t near, uint8_t far, const uint8_t upstream[4])
+{
+    const uint8_t interfaces[2 * BOUGH_INTERFACE_SIZE] = {
+        10, 0, near, 1, 24, BOUGH_INTERFACE_MULTICAST, [BOUGH_INTERFACE_SIZE] = 10, 0, far, 2, 24, BOUGH_INTERFACE_MULTICAST,
+    };
+    uint8_t route[BOUGH_ROUTE_SIZE] = {BOUGH_ROUTE_GROUP, [8] = 232, 1, 1, 1, [17] = 1, [39] = 1};
+    memcpy(route + 12, upstream, 4);
+    memset(sheet, 0, BOUGH_YARD_SHEET);
+    sheet[0] = BOUGH_SHEET_INTERFACES;
+    sheet[1] = 2;
+    memcpy(sheet + BOUGH_SHEET_ENTRIES, interfaces, sizeof interfaces);
+    sheet[512] = BOUGH_SHEET_ROUTES;
+    sheet[513] = 1;
+    sheet[515] = 1;
+    memcpy(sheet + 512 + BOUGH_SHEET_ENTRIES, route, sizeof route);
+    check(sheet);
+    check(sheet + BOUGH_SHEET_BLOCK);
+}
+
+/* Two routers: the first sends on to the second, where the walk ends; then the second sends back to the first. */
+static void walk_entry(void)
+{
+    static const uint8_t second[] = {10, 0, 2, 1}, first[] = {10, 0, 1, 1}, none[] = {0, 0, 0, 0};
+    static const uint8_t query[] = {BOUGH_TYPE_QUERY, 0, 20, 255, 232, 1, 1, 1, 203, 0, 113, 9, 10, 0, 1, 50, 0, 7, 156, 64};
+    const uint32_t times[2] = {1, 2};
+    uint8_t yard[2 * BOUGH_YARD_SHEET], output[BOUGH_ROOM], answer[BOUGH_RECORD_SIZE] = {0};
+    router(yard, 1, 2, second);
+    router(yard + BOUGH_YARD_SHEET, 2, 3, none);
+    expect(bough_walk(yard, sizeof yard, times, 1, query, sizeof query, 0, 0, 0x0A000101, 1, output, sizeof output, answer,
+                      sizeof answer) == BOUGH_WALK_TIMES, "one time for two routers");
+    expect(be(answer, 8) == 0, "a refused walk writes nothing");
+    expect(bough_walk(yard, sizeof yard, times, 2, query, sizeof query, 0, 0, 0x0A000101, 1, output, sizeof output, answer,
+                      sizeof answer) == BOUGH_REPLY, "a walk to its end");
+    expect(be(answer + BOUGH_ANSWER_STEPS, 4) == 2 && be(answer + BOUGH_ANSWER_LENGTH, 4) == 124, "two steps, two blocks");
+    router(yard + BOUGH_YARD_SHEET, 2, 3, first);
+    expect(bough_walk(yard, sizeof yard, times, 2, query, sizeof query, 0, 0, 0x0A000101, 1, output, sizeof output, answer,
+                      sizeof answer) == BOUGH_REPLY, "a walk in a loop");
+    expect(be(answer + BOUGH_ANSWER_STEPS, 4) == 28 && be(answer + BOUGH_ANSWER_BLOCKS, 4) == 27
+               && output[BOUGH_HEADER_SIZE + 26 * BOUGH_STANDARD_SIZE + BOUGH_BLOCK_CODE] == BOUGH_CODE_NO_SPACE,
+           "28 steps, and no space");
+}
+
 int main(void)
 {
     clock_entries();
     engine_entry();
+    walk_entry();
     printf("installed: %s\n", failed ? "failed" : "ok");
     return failed;
 }
