@@ -4,6 +4,7 @@
 #   make examples   the programs of examples/, against include/ and the archive
 #   make test       installs into a folder of its own, compiles against that, and traces through namespaces (root)
 PREFIX ?= /usr/local
+prefix = $(abspath $(PREFIX))
 DESTDIR ?=
 VERSION = 0.1.0
 CC ?= gcc
@@ -22,10 +23,10 @@ $(lib): crates.txt $(shell find crates -name '*.rt' -o -name '*.antt')
 	rt staticlib servicebough
 
 install: $(lib)
-	install -d $(DESTDIR)$(PREFIX)/lib/pkgconfig $(DESTDIR)$(PREFIX)/include
-	install -m 644 $(lib) $(DESTDIR)$(PREFIX)/lib/
-	install -m 644 include/servicebough.h $(DESTDIR)$(PREFIX)/include/
-	sed -e 's|@PREFIX@|$(PREFIX)|' -e 's|@VERSION@|$(VERSION)|' servicebough.pc.in > $(DESTDIR)$(PREFIX)/lib/pkgconfig/servicebough.pc
+	install -d $(DESTDIR)$(prefix)/lib/pkgconfig $(DESTDIR)$(prefix)/include
+	install -m 644 $(lib) $(DESTDIR)$(prefix)/lib/
+	install -m 644 include/servicebough.h $(DESTDIR)$(prefix)/include/
+	sed -e 's|@PREFIX@|$(prefix)|' -e 's|@VERSION@|$(VERSION)|' servicebough.pc.in > $(DESTDIR)$(prefix)/lib/pkgconfig/servicebough.pc
 
 examples: $(programs)
 

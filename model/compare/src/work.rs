@@ -99,7 +99,8 @@ fn stepping(name: &'static str, blocks: usize, sheets: usize, receiving: u32, an
 /// Routers in a ring: each sends on to the next, and the last to the first.
 fn ring(routers: u8) -> Vec<u8> {
     let router = |number: u8| {
-        let interfaces = vec![InterfaceEntry::new(ip(10, number, 0, 1), 24), InterfaceEntry::new(ip(10, number, 1, 1), 24)];
+        let interfaces =
+            vec![InterfaceEntry::new(ip(10, number, 0, 1), 24), InterfaceEntry::new(ip(10, number, 1, 1), 24)];
         let upstream = ip(10, (number + 1) % routers, 0, 1);
         let routes = vec![RouteEntry::group(GROUP).by(1, upstream, 1)];
         SheetPlan { prohibited: false, interfaces, routes }.to_bytes()

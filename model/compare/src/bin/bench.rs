@@ -68,10 +68,13 @@ fn main() {
     let words: Vec<&str> = words.iter().map(String::as_str).collect();
     match words[..] {
         ["times"] => print("ns", |_, work| best_of_nine(work)),
-        ["instructions"] => print("instructions", |place, _| (instructions(place, "library"), instructions(place, "model"))),
+        ["instructions"] => {
+            print("instructions", |place, _| (instructions(place, "library"), instructions(place, "model")))
+        }
         ["run", place, side, turns] => {
             let all = all();
-            let (Some(work), Ok(turns)) = (place.parse().ok().and_then(|place: usize| all.get(place)), turns.parse()) else {
+            let (Some(work), Ok(turns)) = (place.parse().ok().and_then(|place: usize| all.get(place)), turns.parse())
+            else {
                 eprintln!("bench: no such work");
                 exit(2);
             };

@@ -224,7 +224,10 @@ fn write_seeds(cases: u64, rng: &mut Rng, folder: &Path) -> io::Result<()> {
         let numbers = [walk.router, walk.receiving, walk.destination, walk.ttl];
         let lengths = [walk.output, walk.answer, walk.message.len(), walk.times.len()];
         let times: Vec<u8> = walk.times.iter().flat_map(|time| time.to_ne_bytes()).collect();
-        fs::write(folder.join(format!("walk{number}")), seed(1, numbers, lengths, &[&walk.message, &times, &walk.yard]))?;
+        fs::write(
+            folder.join(format!("walk{number}")),
+            seed(1, numbers, lengths, &[&walk.message, &times, &walk.yard]),
+        )?;
     }
     Ok(())
 }
