@@ -230,8 +230,9 @@ uint32_t bough_clock_arrival(uint64_t y);
  * 100, BOUGH_SENT_ON: a Request for the next router. Send output[0 .. length) to `destination` and `port`
  * of the record by the interface numbered `interface`, from the address `source`, with TTL 255:
  *     setsockopt(.., IPPROTO_IP, IP_TTL, 255) and, since the destination may be the group 224.0.0.2,
- *     IP_MULTICAST_TTL 255; an IP_PKTINFO control message with ipi_ifindex the kernel's index of the interface and
- *     ipi_spec_dst the source. The next router drops a Request that comes with another TTL.
+ *     IP_MULTICAST_TTL 255 (in Linux an IP_TTL control message does both for one datagram); an IP_PKTINFO control message with
+ *     ipi_ifindex the kernel's index of the interface and ipi_spec_dst the source. The next router drops a
+ *     Request that comes with another TTL.
  *
  * 101, BOUGH_REPLY: a Reply for the client. Send output[0 .. length) to `destination` and `port`; the interface
  * is 65535: bind the socket to none, set no ipi_ifindex and leave the way to the kernel's routes; ipi_spec_dst
