@@ -1,0 +1,4 @@
+-- Laws of the entries' promises.
+pub mod Behind
+pub mod Rows
+pub mod Determined

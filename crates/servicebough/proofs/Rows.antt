@@ -1,0 +1,68 @@
+-- The ways out of handing over what a reading or a walk gave, over plain values.
+use Prim.Native.Nat.{ℕ, _+_, _≤_, _<_}
+use mathlib.Core.Path.{_≡_}
+use mathlib.Core.List.{List}
+use native.Mathlib.Omega.{arith}
+use lib.ListN.{length}
+use borrow.Author.Tests.{eq-eqb, ne-eqb, lt-ltb, le-ltb}
+use Rattle.wire.specs.Numbers.{bytes32, bytes64}
+use Rattle.wire.specs.Parts.{splice}
+use Rattle.clock.specs.declared.Tick.{Tick}
+use Rattle.yard.specs.declared.Walked.{Walked}
+use Rattle.yard.specs.Walk.{Walk, Tells}
+use Rattle.servicebough.specs.Ticks.{tickBytes, tickNumber, tickLeft, TickMeets}
+use Rattle.servicebough.specs.Answers.{walkedOf, walkedBytes, answerLeft, handed, walkHanded}
+use Rattle.servicebough.proofs.Behind.{three-written, four-written}
+
+module _ (k : Tick) (out : List ℕ) where
+  -- too little room
+  pub no-room : length out < 24 → TickMeets k out 1 out
+  unfolding tickNumber tickLeft
+  no-room h = record { number = simp (lt-ltb _ _ h); bytes = simp (lt-ltb _ _ h) }
+
+  module _ (room : 24 ≤ length out) where
+    -- refused by the clock
+    pub handed-on : (k .number ≡ 0 → ⊥) → TickMeets k out (k .number) out
+    unfolding tickNumber tickLeft
+    handed-on h = record { number = simp (le-ltb _ _ room); bytes = simp (le-ltb _ _ room, ne-eqb _ _ h) }
+
+    -- accepted
+    pub written : (a b c : List ℕ) → k .number ≡ 0 → a ≡ splice out 0 (bytes64 (k .clock .r)) → b ≡ splice a 8 (bytes64 (k .clock .y))
+        → c ≡ splice b 16 (bytes64 (k .time)) → TickMeets k out 0 c
+    unfolding tickNumber tickLeft tickBytes
+    written a b c h ea eb ec =
+        let all = three-written 3 (k .clock .r) (k .clock .y) out a b ea eb (k .time) c ec (omega arith) in
+        record { number = simp (le-ltb _ _ room, h); bytes = simp (le-ltb _ _ room, h) all }
+
+-- what a reading gave, by its definition
+pub of-tick : (k k′ : Tick) (out left : List ℕ) (n : ℕ) → k ≡ k′ → TickMeets k out n left → TickMeets k′ out n left
+of-tick k k′ out left n e m = rw (← e) m
+
+module _ (r : Walked) (answer : List ℕ) where
+  -- nothing was sent
+  pub not-answered : r .end < 101 → answer ≡ answerLeft r answer
+  unfolding answerLeft
+  not-answered h = simp (lt-ltb _ _ h)
+
+  -- end, steps, blocks and length
+  pub answered : (a b c e : List ℕ) → 101 ≤ r .end → 16 ≤ length answer → a ≡ splice answer 0 (bytes32 (r .end))
+      → b ≡ splice a 4 (bytes32 (r .steps)) → c ≡ splice b 8 (bytes32 (r .blocks)) → e ≡ splice c 12 (bytes32 (r .length))
+      → e ≡ answerLeft r answer
+  unfolding answerLeft walkedBytes
+  answered a b c e h room ea eb ec ee =
+      let all = four-written 2 (r .end) (r .steps) answer a b ea eb (r .blocks) c ec (r .length) e ee (omega arith) in
+      simp (le-ltb _ _ h) all
+
+module _ (w : Walk) (output answer : List ℕ) where
+  -- too little room for the answer
+  pub no-answer : length answer < 16 → handed 1 output answer ≡ walkHanded w output answer
+  unfolding walkHanded
+  no-answer h = simp (lt-ltb _ _ h)
+
+  -- what a walk tells is what is handed over
+  pub walk-told : (r : Walked) (output′ answer′ : List ℕ) → 16 ≤ length answer → Tells w output r output′ → answer′ ≡ answerLeft r answer
+      → handed (r .end) output′ answer′ ≡ walkHanded w output answer
+  unfolding walkHanded
+  walk-told r output′ answer′ room t e =
+      let is : r ≡ walkedOf w = λ d. record { end = t .end d; steps = t .steps d; blocks = t .blocks d; length = t .long d } in
+      simp (le-ltb _ _ room, e, t .sends, is)

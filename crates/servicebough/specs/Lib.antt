@@ -1,0 +1,3 @@
+-- What the entries for C hand over beyond the definitions of the crates below.
+pub mod Ticks
+pub mod Answers

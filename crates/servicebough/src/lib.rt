@@ -1,0 +1,143 @@
+// What a host written in C or Rust calls. Numbers pass as themselves, a slice as a pointer and a length; no entry asks anything of
+// its caller but that what is written overlaps nothing else.
+use clock::Clock;
+use clock::Tick;
+use yard::Walked;
+ghost use mathlib.Core.Path.{_≡_};
+ghost use Prim.Native.Nat.{_≤_};
+ghost use lib.ListN.{length};
+ghost use Rattle.clock.specs.Clock.{clockOf, startOf, advanceOf, arrivalOf};
+ghost use Rattle.clock.specs.Unix.{unixOf};
+ghost use Rattle.drops.specs.Arrival.{arrival};
+ghost use Rattle.engine.specs.Step.{outcome, StepMeets};
+ghost use Rattle.yard.specs.Walk.{visit, walkOf};
+ghost use Rattle.servicebough.specs.Ticks.{TickMeets};
+ghost use Rattle.servicebough.specs.Answers.{answerLeft, handed, walkHanded};
+
+// Hands over what a reading gave: its number and, unless it was refused, 24 bytes.
+fn hand_over(k: Tick, out: &mut [u8]) -> u32
+    ensures { λ n. ⌜ TickMeets k (now (out .entry)) n (now (out .exit)) ⌝ }
+{
+    if out.len() < 24 {
+        return 1;
+    }
+    if k.number != 0 {
+        return k.number;
+    }
+    let c = k.clock;
+    wire::put64(out, 0, c.r);
+    wire::put64(out, 8, c.y);
+    wire::put64(out, 16, k.time);
+    0
+}
+
+// Starts a clock.
+#[no_mangle]
+pub extern "C" fn bough_clock_start(reading: u64, out: &mut [u8]) -> u32
+    ensures { λ n. ⌜ TickMeets (startOf reading) (now (out .entry)) n (now (out .exit)) ⌝ }
+{
+    hand_over(Clock::start(reading), out)
+}
+
+// Advances the clock (r, y).
+#[no_mangle]
+pub extern "C" fn bough_clock_advance(r: u64, y: u64, reading: u64, out: &mut [u8]) -> u32
+    ensures { λ n. ⌜ TickMeets (advanceOf (clockOf r y) reading) (now (out .entry)) n (now (out .exit)) ⌝ }
+{
+    let c = Clock { r, y };
+    hand_over(c.advance(reading), out)
+}
+
+// UNIX time to units; 0 where it is refused.
+#[no_mangle]
+pub extern "C" fn bough_clock_unix(seconds: u64, nanoseconds: u64) -> u64
+    ensures { λ u. ⌜ u ≡ unixOf seconds nanoseconds .units ⌝ }
+{
+    let u = clock::unix(seconds, nanoseconds);
+    u.units
+}
+
+// The Query Arrival Time of a time issued.
+#[no_mangle]
+pub extern "C" fn bough_clock_arrival(y: u64) -> u32
+    ensures { λ t. ⌜ t ≡ arrivalOf y ⌝ }
+{
+    clock::arrival(y)
+}
+
+// One router's step.
+#[no_mangle]
+pub extern "C" fn bough_engine_step(
+    message: &[u8],
+    destination: u32,
+    receiving: u32,
+    ttl: u32,
+    time: u32,
+    sheet: &[u8],
+    recent: &mut [u8],
+    output: &mut [u8],
+    note: &mut [u8],
+) -> u32
+    ensures { λ r. ⌜ StepMeets (arrival (now (message .entry)) destination receiving ttl) time (now (sheet .entry)) (now (recent .entry)) (now (output .entry)) (now (note .entry))
+        (outcome r (now (recent .exit)) (now (output .exit)) (now (note .exit))) ⌝ }
+{
+    engine::step(
+        message,
+        destination,
+        receiving,
+        ttl,
+        time,
+        sheet,
+        recent,
+        output,
+        note,
+    )
+}
+
+// Writes what a walk answered into 16 bytes, unless it was refused or dropped.
+fn write_answer(w: Walked, answer: &mut [u8])
+    requires { ⌜ 16 ≤ length (now answer) ⌝ }
+    ensures { λ _. ⌜ now (answer .exit) ≡ answerLeft w (now (answer .entry)) ⌝ }
+{
+    if w.end < 101 {
+        return;
+    }
+    wire::put32(answer, 0, w.end);
+    wire::put32(answer, 4, w.steps);
+    wire::put32(answer, 8, w.blocks);
+    wire::put32(answer, 12, w.length);
+}
+
+// A Query walked through a yard.
+#[no_mangle]
+pub extern "C" fn bough_walk(
+    yard: &[u8],
+    times: &[u32],
+    message: &[u8],
+    start: u32,
+    receiving: u32,
+    destination: u32,
+    ttl: u32,
+    output: &mut [u8],
+    answer: &mut [u8],
+) -> u32
+    ensures { λ n. ⌜ handed n (now (output .exit)) (now (answer .exit))
+        ≡ walkHanded (walkOf (now (yard .entry)) (now (times .entry)) (visit start (arrival (now (message .entry)) destination receiving ttl)) (length (now (output .entry))))
+        (now (output .entry)) (now (answer .entry)) ⌝ }
+{
+    if answer.len() < 16 {
+        return 1;
+    }
+    let w = yard::walk(
+        yard,
+        times,
+        message,
+        start,
+        receiving,
+        destination,
+        ttl,
+        output,
+    );
+    write_answer(w, answer);
+    w.end
+}

@@ -1,0 +1,438 @@
+/* A router's Mtrace2 host over libservicebough, on real UDP sockets (Linux, IPv4).
+ *
+ *     host [-p PORT] [-n PACKETS] SHEET
+ *
+ * Reads the router's tables from the file SHEET, matches their interfaces to the kernel's by address, and
+ * answers what comes in on PORT (33435). Counts each drop number, and prints the counts on SIGINT or
+ * SIGTERM, or after PACKETS datagrams. SIGHUP reads SHEET anew.
+ * Exit status: 0 ended as asked, 1 anything that it could not do, 2 bad arguments. */
+#define _GNU_SOURCE
+#include <arpa/inet.h>
+#include <errno.h>
+#include <ifaddrs.h>
+#include <net/if.h>
+#include <netinet/in.h>
+#include <poll.h>
+#include <signal.h>
+#include <stdbool.h>
+#include <stdio.h>
+#include <stdlib.h>
+#include <string.h>
+#include <sys/socket.h>
+#include <time.h>
+#include <unistd.h>
+
+#include "bytes.h"
+#include <servicebough.h>
+
+#define SHEET_MOST (BOUGH_SHEET_BLOCK * BOUGH_SHEET_BLOCKS_MOST)
+
+/* An interface of the sheet, and the kernel's index for it. */
+struct interface {
+    uint32_t address;
+    uint8_t prefix;
+    bool multicast;
+    unsigned index;
+};
+
+/* The router's tables, and what of them the host itself looks at. */
+struct router {
+    uint8_t sheet[SHEET_MOST];
+    size_t sheet_len;
+    struct interface interfaces[BOUGH_INTERFACES_MOST];
+    size_t count;
+};
+
+/* What the host keeps from one datagram to the next. */
+struct host {
+    struct router router;
+    uint8_t recent[BOUGH_RECENT_SIZE];
+    uint64_t r, y; /* the clock */
+    int socket;
+    uint64_t received, sent_on, replies, unsent;
+    uint64_t dropped[BOUGH_DROP_LAST + 1];
+};
+
+/* A datagram as it came in. */
+struct arrival {
+    size_t length;
+    uint32_t destination, sender, interface, ttl, time;
+};
+
+static const char *const drop_names[BOUGH_DROP_LAST + 1] = {
+    "",      "ROOM",   "STATE", "SHEET",  "IFACE",  "SIZE", "TYPE", "HEADER", "HOPS",    "GROUP",
+    "SOURCE", "PAIR",  "CLIENT", "BLOCKS", "DEST",  "NEAR", "COUNT", "SEEN",   "LASTHOP", "NOPREV",
+};
+
+static volatile sig_atomic_t stop, reload;
+
+static void on_signal(int number)
+{
+    if (number == SIGHUP)
+        reload = 1;
+    else
+        stop = 1;
+}
+
+static const char *dotted(uint32_t address, char text[INET_ADDRSTRLEN])
+{
+    struct in_addr in = {.s_addr = htonl(address)};
+    inet_ntop(AF_INET, &in, text, INET_ADDRSTRLEN);
+    return text;
+}
+
+/* ---- the sheet ---------------------------------------------------------------------------------- */
+
+/* Whether the engine takes a sheet: an empty message is dropped as such only where the sheet is valid. */
+static bool sheet_is_valid(const uint8_t *sheet, size_t length)
+{
+    uint8_t recent[BOUGH_RECENT_SIZE] = {0}, output[BOUGH_ROOM], record[BOUGH_RECORD_SIZE];
+    return bough_engine_step(NULL, 0, 0, 0, 0, 0, sheet, length, recent, sizeof recent, output, sizeof output,
+                             record, sizeof record) != BOUGH_DROP_SHEET;
+}
+
+/* Takes the interfaces out of a valid sheet. */
+static void read_interfaces(struct router *router)
+{
+    router->count = 0;
+    for (size_t b = 0; b < router->sheet_len / BOUGH_SHEET_BLOCK; b++) {
+        const uint8_t *block = router->sheet + b * BOUGH_SHEET_BLOCK;
+        if (block[0] != BOUGH_SHEET_INTERFACES)
+            break;
+        for (size_t j = 0; j < block[1]; j++) {
+            const uint8_t *entry = block + BOUGH_SHEET_ENTRIES + j * BOUGH_INTERFACE_SIZE;
+            router->interfaces[router->count++] = (struct interface){
+                .address = get32(entry),
+                .prefix = entry[4],
+                .multicast = entry[5] & BOUGH_INTERFACE_MULTICAST,
+            };
+        }
+    }
+}
+
+/* Finds the kernel's index of each interface by its address. */
+static bool match_interfaces(struct router *router)
+{
+    struct ifaddrs *all;
+    if (getifaddrs(&all) != 0) {
+        perror("host: the machine's interfaces");
+        return false;
+    }
+    for (struct ifaddrs *here = all; here != NULL; here = here->ifa_next) {
+        if (here->ifa_addr == NULL || here->ifa_addr->sa_family != AF_INET)
+            continue;
+        struct sockaddr_in in;
+        memcpy(&in, here->ifa_addr, sizeof in);
+        for (size_t i = 0; i < router->count; i++)
+            if (router->interfaces[i].address == ntohl(in.sin_addr.s_addr))
+                router->interfaces[i].index = if_nametoindex(here->ifa_name);
+    }
+    freeifaddrs(all);
+    for (size_t i = 0; i < router->count; i++) {
+        if (router->interfaces[i].index == 0) {
+            char text[INET_ADDRSTRLEN];
+            fprintf(stderr, "host: no interface of this machine has the address %s (interface %zu of the sheet)\n",
+                    dotted(router->interfaces[i].address, text), i);
+            return false;
+        }
+    }
+    return true;
+}
+
+static bool read_sheet(const char *name, struct router *router)
+{
+    FILE *file = fopen(name, "rb");
+    if (file == NULL) {
+        fprintf(stderr, "host: %s: %s\n", name, strerror(errno));
+        return false;
+    }
+    router->sheet_len = fread(router->sheet, 1, sizeof router->sheet, file);
+    bool whole = ferror(file) == 0 && fgetc(file) == EOF;
+    fclose(file);
+    if (!whole || !sheet_is_valid(router->sheet, router->sheet_len)) {
+        fprintf(stderr, "host: %s: the sheet is refused: its %zu bytes%s break a rule of a sheet (drop number %d)\n", name,
+                router->sheet_len, whole ? "" : " and more", BOUGH_DROP_SHEET);
+        return false;
+    }
+    read_interfaces(router);
+    return match_interfaces(router);
+}
+
+/* The number in the sheet of the interface that a datagram came in on: with several addresses on it, the one
+ * whose subnet the sender is in. */
+static uint32_t interface_number(const struct router *router, unsigned index, uint32_t sender)
+{
+    uint32_t found = UINT32_MAX;
+    for (size_t i = 0; i < router->count; i++) {
+        const struct interface *here = &router->interfaces[i];
+        if (here->index != index)
+            continue;
+        if (((here->address ^ sender) >> (32 - here->prefix)) == 0)
+            return (uint32_t)i;
+        if (found == UINT32_MAX)
+            found = (uint32_t)i;
+    }
+    return found;
+}
+
+/* ---- the socket --------------------------------------------------------------------------------- */
+
+/* Hears 224.0.0.2 on each interface with multicast. */
+static void join_all_routers(int s, const struct router *router)
+{
+    for (size_t i = 0; i < router->count; i++) {
+        struct ip_mreqn request = {.imr_ifindex = (int)router->interfaces[i].index};
+        request.imr_multiaddr.s_addr = htonl(BOUGH_ALL_ROUTERS);
+        if (router->interfaces[i].multicast && setsockopt(s, IPPROTO_IP, IP_ADD_MEMBERSHIP, &request, sizeof request) != 0
+            && errno != EADDRINUSE) {
+            char text[INET_ADDRSTRLEN];
+            fprintf(stderr, "host: 224.0.0.2 is not heard on %s: %s\n", dotted(router->interfaces[i].address, text),
+                    strerror(errno));
+        }
+    }
+}
+
+static int open_socket(uint16_t port)
+{
+    int on = 1, off = 0;
+    struct sockaddr_in any = {.sin_family = AF_INET, .sin_port = htons(port)};
+    any.sin_addr.s_addr = htonl(INADDR_ANY);
+    int s = socket(AF_INET, SOCK_DGRAM | SOCK_CLOEXEC, 0);
+    if (s < 0 || setsockopt(s, IPPROTO_IP, IP_PKTINFO, &on, sizeof on) != 0
+        || setsockopt(s, IPPROTO_IP, IP_RECVTTL, &on, sizeof on) != 0
+        || setsockopt(s, IPPROTO_IP, IP_MULTICAST_LOOP, &off, sizeof off) != 0) {
+        perror("host: socket");
+        return -1;
+    }
+    if (bind(s, (struct sockaddr *)&any, sizeof any) != 0) {
+        fprintf(stderr, "host: port %u: %s\n", (unsigned)port,
+                errno == EADDRINUSE ? "another program has this port" : strerror(errno));
+        return -1;
+    }
+    return s;
+}
+
+/* Receives a datagram, with its destination, interface and TTL. */
+static bool receive(const struct host *host, uint8_t *payload, size_t room, struct arrival *in)
+{
+    union {
+        struct cmsghdr align;
+        char bytes[CMSG_SPACE(sizeof(struct in_pktinfo)) + CMSG_SPACE(sizeof(int))];
+    } control;
+    struct sockaddr_in from = {0};
+    struct iovec part = {.iov_base = payload, .iov_len = room};
+    struct msghdr message = {.msg_name = &from, .msg_namelen = sizeof from, .msg_iov = &part, .msg_iovlen = 1,
+                             .msg_control = control.bytes, .msg_controllen = sizeof control.bytes};
+    ssize_t length = recvmsg(host->socket, &message, MSG_DONTWAIT);
+    if (length < 0)
+        return false;
+    *in = (struct arrival){.length = (size_t)length, .sender = ntohl(from.sin_addr.s_addr), .interface = UINT32_MAX};
+    for (struct cmsghdr *c = CMSG_FIRSTHDR(&message); c != NULL; c = CMSG_NXTHDR(&message, c)) {
+        if (c->cmsg_level != IPPROTO_IP)
+            continue;
+        if (c->cmsg_type == IP_PKTINFO) {
+            struct in_pktinfo info;
+            memcpy(&info, CMSG_DATA(c), sizeof info);
+            in->destination = ntohl(info.ipi_addr.s_addr);
+            in->interface = interface_number(&host->router, (unsigned)info.ipi_ifindex, in->sender);
+        } else if (c->cmsg_type == IP_TTL) {
+            int ttl;
+            memcpy(&ttl, CMSG_DATA(c), sizeof ttl);
+            in->ttl = (uint32_t)ttl;
+        }
+    }
+    return true;
+}
+
+/* Sends what a record says: a Request with TTL 255 by its interface, a Reply by whichever leads to the client. */
+static bool send_out(const struct host *host, bool request, uint8_t *output, const uint8_t *record)
+{
+    union {
+        struct cmsghdr align;
+        char bytes[CMSG_SPACE(sizeof(struct in_pktinfo)) + CMSG_SPACE(sizeof(int))];
+    } control = {.bytes = {0}};
+    uint16_t interface = get16(record + BOUGH_RECORD_INTERFACE);
+    struct in_pktinfo info = {0};
+    struct sockaddr_in to = {.sin_family = AF_INET, .sin_port = htons(get16(record + BOUGH_RECORD_PORT))};
+    struct iovec part = {.iov_base = output, .iov_len = get16(record + BOUGH_RECORD_LENGTH)};
+    struct msghdr message = {.msg_name = &to, .msg_namelen = sizeof to, .msg_iov = &part, .msg_iovlen = 1,
+                             .msg_control = control.bytes, .msg_controllen = CMSG_SPACE(sizeof info)};
+    to.sin_addr.s_addr = htonl(get32(record + BOUGH_RECORD_DESTINATION));
+    info.ipi_spec_dst.s_addr = htonl(get32(record + BOUGH_RECORD_SOURCE));
+    if (interface != BOUGH_ANY_INTERFACE)
+        info.ipi_ifindex = (int)host->router.interfaces[interface].index;
+    if (request)
+        message.msg_controllen = sizeof control.bytes;
+    struct cmsghdr *c = CMSG_FIRSTHDR(&message);
+    c->cmsg_level = IPPROTO_IP;
+    c->cmsg_type = IP_PKTINFO;
+    c->cmsg_len = CMSG_LEN(sizeof info);
+    memcpy(CMSG_DATA(c), &info, sizeof info);
+    if (request) {
+        int ttl = BOUGH_REQUEST_TTL; /* Linux takes the TTL of one datagram so, also to a group */
+        c = CMSG_NXTHDR(&message, c);
+        c->cmsg_level = IPPROTO_IP;
+        c->cmsg_type = IP_TTL;
+        c->cmsg_len = CMSG_LEN(sizeof ttl);
+        memcpy(CMSG_DATA(c), &ttl, sizeof ttl);
+    }
+    return sendmsg(host->socket, &message, 0) >= 0;
+}
+
+/* ---- the clock ---------------------------------------------------------------------------------- */
+
+/* The machine's time in units; 0 if the library refuses it. */
+static uint64_t reading(void)
+{
+    struct timespec now;
+    clock_gettime(CLOCK_REALTIME, &now);
+    return bough_clock_unix((uint64_t)now.tv_sec, (uint64_t)now.tv_nsec);
+}
+
+static bool start_clock(struct host *host)
+{
+    uint8_t out[BOUGH_CLOCK_SIZE];
+    uint64_t now = reading();
+    if (now == 0 || bough_clock_start(now, out, sizeof out) != BOUGH_CLOCK_OK) {
+        fprintf(stderr, "host: the machine's time is out of range\n");
+        return false;
+    }
+    host->r = get64(out);
+    host->y = get64(out + 8);
+    return true;
+}
+
+/* The arrival time of a datagram; a reading that is refused leaves the clock standing. */
+static uint32_t arrival_time(struct host *host)
+{
+    uint8_t out[BOUGH_CLOCK_SIZE];
+    uint64_t now = reading();
+    if (now != 0 && bough_clock_advance(host->r, host->y, now, out, sizeof out) == BOUGH_CLOCK_OK) {
+        host->r = get64(out);
+        host->y = get64(out + 8);
+    }
+    return bough_clock_arrival(host->y);
+}
+
+/* ---- the loop ----------------------------------------------------------------------------------- */
+
+static void answer(struct host *host, const uint8_t *payload, const struct arrival *in)
+{
+    uint8_t output[BOUGH_ROOM], record[BOUGH_RECORD_SIZE];
+    uint32_t number = bough_engine_step(payload, in->length, in->destination, in->interface, in->ttl, in->time,
+                                        host->router.sheet, host->router.sheet_len, host->recent, sizeof host->recent,
+                                        output, sizeof output, record, sizeof record);
+    host->received++;
+    if (number != BOUGH_SENT_ON && number != BOUGH_REPLY) {
+        host->dropped[number]++;
+        return;
+    }
+    if (number == BOUGH_SENT_ON)
+        host->sent_on++;
+    else
+        host->replies++;
+    if (!send_out(host, number == BOUGH_SENT_ON, output, record)) {
+        char text[INET_ADDRSTRLEN];
+        fprintf(stderr, "host: not sent to %s: %s\n", dotted(get32(record + BOUGH_RECORD_DESTINATION), text), strerror(errno));
+        host->unsent++;
+    }
+}
+
+static void print_counts(const struct host *host)
+{
+    printf("received %llu sent on %llu replies %llu not sent %llu\n", (unsigned long long)host->received,
+           (unsigned long long)host->sent_on, (unsigned long long)host->replies, (unsigned long long)host->unsent);
+    for (int number = 1; number <= BOUGH_DROP_LAST; number++)
+        if (host->dropped[number] != 0)
+            printf("dropped %d %s %llu\n", number, drop_names[number], (unsigned long long)host->dropped[number]);
+    fflush(stdout);
+}
+
+/* Reads the sheet anew; a sheet that is refused leaves the old one in use. */
+static void read_anew(struct host *host, const char *name)
+{
+    static struct router next;
+    memset(&next, 0, sizeof next);
+    if (read_sheet(name, &next)) {
+        host->router = next;
+        join_all_routers(host->socket, &host->router);
+    }
+}
+
+static int run(struct host *host, const char *name, uint64_t packets)
+{
+    static uint8_t payload[65536];
+    sigset_t held, free_set;
+    struct sigaction action = {.sa_handler = on_signal};
+    struct pollfd ready = {.fd = host->socket, .events = POLLIN};
+    sigemptyset(&held);
+    sigaddset(&held, SIGINT);
+    sigaddset(&held, SIGTERM);
+    sigaddset(&held, SIGHUP);
+    sigprocmask(SIG_BLOCK, &held, &free_set);
+    sigdelset(&free_set, SIGINT);
+    sigdelset(&free_set, SIGTERM);
+    sigdelset(&free_set, SIGHUP);
+    sigaction(SIGINT, &action, NULL);
+    sigaction(SIGTERM, &action, NULL);
+    sigaction(SIGHUP, &action, NULL);
+    while (!stop && (packets == 0 || host->received < packets)) {
+        struct arrival in;
+        if (ppoll(&ready, 1, NULL, &free_set) < 0 && errno != EINTR) {
+            perror("host: poll");
+            return 1;
+        }
+        if (reload) {
+            reload = 0;
+            read_anew(host, name);
+        }
+        if (receive(host, payload, sizeof payload, &in)) {
+            in.time = arrival_time(host);
+            answer(host, payload, &in);
+        }
+    }
+    print_counts(host);
+    return 0;
+}
+
+/* A decimal number from 1 to `most`, or 0. */
+static unsigned long long number_from(const char *text, unsigned long long most)
+{
+    char *end;
+    errno = 0;
+    unsigned long long n = strtoull(text, &end, 10);
+    return errno == 0 && *end == '\0' && text[0] >= '0' && text[0] <= '9' && n <= most ? n : 0;
+}
+
+static int usage(void)
+{
+    fprintf(stderr, "usage: host [-p PORT] [-n PACKETS] SHEET\n");
+    return 2;
+}
+
+int main(int argc, char **argv)
+{
+    static struct host host;
+    unsigned long long port = BOUGH_PORT, packets = 0;
+    int option;
+    while ((option = getopt(argc, argv, "p:n:")) != -1) {
+        if (option == 'p' && (port = number_from(optarg, 65535)) != 0)
+            continue;
+        if (option == 'n' && (packets = number_from(optarg, UINT64_MAX)) != 0)
+            continue;
+        return usage();
+    }
+    if (optind + 1 != argc)
+        return usage();
+    if (!read_sheet(argv[optind], &host.router) || !start_clock(&host) || (host.socket = open_socket((uint16_t)port)) < 0)
+        return 1;
+    join_all_routers(host.socket, &host.router);
+    for (size_t i = 0; i < host.router.count; i++) {
+        char text[INET_ADDRSTRLEN], name[IF_NAMESIZE] = "?";
+        if_indextoname(host.router.interfaces[i].index, name);
+        printf("interface %zu %s %s\n", i, dotted(host.router.interfaces[i].address, text), name);
+    }
+    printf("listening on port %llu\n", port);
+    fflush(stdout);
+    return run(&host, argv[optind], packets);
+}

@@ -1,0 +1,106 @@
+//! The model behind the library's own interface: fuzz.c calls both and compares.
+
+use model::clock::{self, Clock, Tick};
+use model::engine::{step, Arrival};
+use model::walk::{walk, Start};
+use std::slice::{from_raw_parts, from_raw_parts_mut};
+
+/// # Safety
+/// The pointers and lengths are those of slices that are there, and what is written overlaps nothing.
+#[no_mangle]
+pub unsafe extern "C" fn model_engine_step(
+    message: *const u8,
+    message_len: usize,
+    destination: u32,
+    receiving: u32,
+    ttl: u32,
+    time: u32,
+    sheet: *const u8,
+    sheet_len: usize,
+    recent: *mut u8,
+    recent_len: usize,
+    output: *mut u8,
+    output_len: usize,
+    record: *mut u8,
+    record_len: usize,
+) -> u32 {
+    let arrival = Arrival { message: from_raw_parts(message, message_len), destination, receiving, ttl, time };
+    step(
+        arrival,
+        from_raw_parts(sheet, sheet_len),
+        from_raw_parts_mut(recent, recent_len),
+        from_raw_parts_mut(output, output_len),
+        from_raw_parts_mut(record, record_len),
+    )
+}
+
+/// Room is tried first, and a refusal writes nothing.
+fn hand_over(tick: Tick, out: &mut [u8]) -> u32 {
+    if out.len() < 24 {
+        return 1;
+    }
+    if tick.number == 0 {
+        for (part, number) in out.chunks_mut(8).zip([tick.clock.reading, tick.clock.issued, tick.time]) {
+            part.copy_from_slice(&number.to_be_bytes());
+        }
+    }
+    tick.number
+}
+
+/// # Safety
+/// `out` is a slice that is there.
+#[no_mangle]
+pub unsafe extern "C" fn model_clock_start(reading: u64, out: *mut u8, out_len: usize) -> u32 {
+    hand_over(Clock::start(reading), from_raw_parts_mut(out, out_len))
+}
+
+/// # Safety
+/// `out` is a slice that is there.
+#[no_mangle]
+pub unsafe extern "C" fn model_clock_advance(r: u64, y: u64, reading: u64, out: *mut u8, out_len: usize) -> u32 {
+    hand_over(Clock { reading: r, issued: y }.advance(reading), from_raw_parts_mut(out, out_len))
+}
+
+#[no_mangle]
+pub extern "C" fn model_clock_unix(seconds: u64, nanoseconds: u64) -> u64 {
+    clock::unix(seconds, nanoseconds).unwrap_or(0)
+}
+
+#[no_mangle]
+pub extern "C" fn model_clock_arrival(y: u64) -> u32 {
+    clock::arrival(y)
+}
+
+/// # Safety
+/// As of [`model_engine_step`]; `times` is aligned.
+#[no_mangle]
+pub unsafe extern "C" fn model_walk(
+    yard: *const u8,
+    yard_len: usize,
+    times: *const u32,
+    times_len: usize,
+    message: *const u8,
+    message_len: usize,
+    router: u32,
+    receiving: u32,
+    destination: u32,
+    ttl: u32,
+    output: *mut u8,
+    output_len: usize,
+    answer: *mut u8,
+    answer_len: usize,
+) -> u32 {
+    let answer = from_raw_parts_mut(answer, answer_len);
+    if answer.len() < 16 {
+        return 1;
+    }
+    let start = Start { message: from_raw_parts(message, message_len), router, receiving, destination, ttl };
+    let (yard, times) = (from_raw_parts(yard, yard_len), from_raw_parts(times, times_len));
+    let walked = walk(yard, times, start, from_raw_parts_mut(output, output_len));
+    if walked.end >= 101 {
+        for (part, number) in answer.chunks_mut(4).zip([walked.end, walked.steps, walked.blocks, walked.length]) {
+            part.copy_from_slice(&number.to_be_bytes());
+        }
+    }
+    walked.end
+}
