@@ -13,7 +13,7 @@ use Rattle.message.specs.Blocks.{blocksBy, blocksFrom, blocksOf, standardPlaces
 use Rattle.yard.specs.declared.Walked.{Walked}
 use Rattle.yard.specs.Yard.{routersIn, yardOk}
 use Rattle.yard.specs.Walk.{Visit, Walk, refused, walkFrom, walkOf, Tells}
-use Rattle.yard.specs.Ready.{Ready}
+use Rattle.yard.specs.Ready.{Checked, Ready}
 use Rattle.yard.proofs.Sheets.{Sized, yard-right}
 
 -- the answer of a refused walk
@@ -29,7 +29,10 @@ module _ (yard times : List ℕ) (v : Visit) (output : List ℕ) (r : Walked) wh
   unfolding walkOf
   output-short h = tells 1 (rw (lt-ltb (length output) 1472 h))
 
-  module _ (room : 1472 ≤ length output) (ok : Bool) (told : ok ≡ yardOk yard) where
+  module _ (room : 1472 ≤ length output) (ok : Bool) (counts : List ℕ) (checked : Checked yard ok counts) where
+    told : ok ≡ yardOk yard
+    told = checked .is
+
     pub yard-wrong : not ok ≡ true → r ≡ none 21 → Tells (walkOf yard times v (length output)) output r output
     unfolding walkOf
     yard-wrong e = tells 21 (rw (le-ltb (length output) 1472 room, ← told, not-true ok e))
@@ -61,8 +64,8 @@ module _ (yard times : List ℕ) (v : Visit) (output : List ℕ) (r : Walked) wh
               t
 
 -- what the walk asks for
-pub walk-ready : (yard times : List ℕ) (router : ℕ) (ok : Bool) → ok ≡ yardOk yard → not ok ≡ false → length yard / 1024 ≤ length times
-    → router < length yard / 1024 → Ready yard times router
-walk-ready yard times router ok told right timed there =
-    let s = yard-right yard (sym told ∙ not-false ok right) in
-    record { whole = s .whole; few = s .few; there = there; timed = timed }
+pub walk-ready : (yard counts times : List ℕ) (router : ℕ) (ok : Bool) → Checked yard ok counts → not ok ≡ false → length yard / 1024 ≤ length times
+    → router < length yard / 1024 → Ready yard counts times router
+walk-ready yard counts times router ok checked right timed there =
+    let s = yard-right yard (sym (checked .is) ∙ not-false ok right) in
+    record { whole = s .whole; few = s .few; there = there; timed = timed; counted = checked .counted (not-false ok right) }

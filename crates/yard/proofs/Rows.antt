@@ -159,8 +159,8 @@ module _ (yard times : List ℕ) (v : Visit) (old new : List ℕ) (h : Hop) (hop
         let less = falls yard times v (goes-on yard times v goes) in
         omega (arith, ap (λ (w : Visit). unused (w .arrival .message)) next-visit)
 
-    pub ready-next : Ready yard times (v .router) → Ready yard times (h .router)
-    ready-next r = record { whole = r .whole; few = r .few; there = hopped .there on; timed = r .timed }
+    pub ready-next : (counts : List ℕ) → Ready yard counts times (v .router) → Ready yard counts times (h .router)
+    ready-next counts r = record { whole = r .whole; few = r .few; there = hopped .there on; timed = r .timed; counted = r .counted }
 
     pub walk-goes-on : (output output′ : List ℕ) (r : Walked)
         → Tells (walkFrom yard times (visit (h .router) (arrival (take (h .length) new) (h .to) (h .interface) 255))) output r output′

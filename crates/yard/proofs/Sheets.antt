@@ -2,39 +2,77 @@
 use Prim.Native.Nat.{ℕ, zero, suc, _+_, _*_, _-_, _/_, _%_, _≤_, _<_}
 use mathlib.Core.Bool.{Bool, true, false, not, _&&_}
 use mathlib.Core.List.{List}
+use mathlib.Core.Logic.{⊎-elim}
 use mathlib.Core.Path.{_≡_, refl, sym, ap, _∙_}
 use native.Mathlib.Omega.{arith}
-use native.Mathlib.Nat.{add-sub-cancel-left}
+use native.Mathlib.Nat.{add-sub-cancel-left, eq-or-lt-of-le}
 use native.Mathlib.Numerals.{add-one}
 use borrow.Author.Tests.{leb-true, eqb-true, not-true, not-false}
 use lib.Dec.{leb, eqb}
-use lib.ListN.{length, take, drop}
+use lib.ListN.{length, take, drop, getD, set, length-set}
+use lib.Seq.{getD-set-same, getD-set-other}
+use Rattle.wire.specs.Numbers.{be32}
 use Rattle.wire.proofs.Flags.{both-of}
+use Rattle.entry.specs.Interface.{interfaceSize, interfaceAt}
+use Rattle.entry.specs.declared.interface.Interface.{Interface}
 use Rattle.sheet.specs.Every.{every}
 use Rattle.sheet.specs.Sheet.{layoutOf}
-use Rattle.sheet.specs.Tables.{holderOf}
+use Rattle.sheet.specs.Tables.{placeOf, interfaceOf, holderOf}
 use Rattle.sheet.specs.declared.layout.Layout.{Layout}
 use Rattle.sheet.specs.declared.tables.Found.{Found}
 use Rattle.sheet.specs.declared.tables.Found.the-variants.{At, Nothing}
 use Rattle.sheet.proofs.Entries.{interfaces-few}
 use Rattle.sheet.proofs.Holders.{holder-there}
+use Rattle.sheet.proofs.Reading.{searched, search-start as sheet-start, search-found as sheet-found, search-on as sheet-on}
 use Rattle.yard.specs.declared.Holder.{Holder}
 use Rattle.yard.specs.declared.Holder.the-variants.{Held, Nobody}
-use Rattle.yard.specs.Yard.{sheetSize, mostRouters, routersIn, sheetAt, validAt, sizeOk, yardOk, heldBy, lowestFrom, holderIn}
+use Rattle.yard.specs.Ready.{Counted, Checked}
+use Rattle.yard.specs.Yard.{routersIn, sheetAt, validAt, sizeOk, yardOk, heldBy, lowestFrom, holderIn}
 
 -- the part of a yard that is lent for router i
 pub lent-sheet : (yard : List ℕ) (i : ℕ) → take (1024 * i + 1024 - 1024 * i) (drop (1024 * i) yard) ≡ sheetAt yard i
 unfolding sheetAt
 lent-sheet yard i = rw add-sub-cancel-left
 
--- one sheet more is checked
-pub checked-more : (yard : List ℕ) (i : ℕ) (ok : Bool) (l : Layout) → ok ≡ every (validAt yard) i
-    → l ≡ layoutOf (take (1024 * i + 1024 - 1024 * i) (drop (1024 * i) yard)) → (ok && l .valid) ≡ every (validAt yard) (i + 1)
-unfolding every
-checked-more yard i ok l e f = rw (add-one, ← e, f, lent-sheet yard i)
+-- one sheet more is checked, and its interfaces are counted
+module _ (yard : List ℕ) (i : ℕ) (l : Layout) (told : l ≡ layoutOf (take (1024 * i + 1024 - 1024 * i) (drop (1024 * i) yard))) where
+  layout-is : l ≡ layoutOf (sheetAt yard i)
+  layout-is = told ∙ rw (lent-sheet yard i)
 
-pub checked-all : (yard : List ℕ) (n i : ℕ) (ok : Bool) → ok ≡ every (validAt yard) i → i ≤ n → n ≤ i → ok ≡ every (validAt yard) n
-checked-all yard n i ok e h l = let q : i ≡ n = omega arith in e ∙ ap (every (validAt yard)) q
+  pub checked-more : (ok : Bool) → ok ≡ every (validAt yard) i → (ok && l .valid) ≡ every (validAt yard) (i + 1)
+  unfolding every
+  checked-more ok e = rw (add-one, ← e, layout-is)
+
+  pub counted-more : (counts first : List ℕ) (n : ℕ) → i < n → n ≤ length first → length counts ≡ length first → Counted yard counts i
+      → Counted yard (set counts i (l .interfaces)) (i + 1)
+  counted-more counts first n more room same c =
+      let there : i < length counts = omega arith in
+      record {
+        long = simp length-set (omega arith);
+        each =
+            λ k h.
+            ⊎-elim
+            (λ e.
+            ap (λ (n : ℕ). getD (set counts i (l .interfaces)) n 0) e
+            ∙ getD-set-same counts i (l .interfaces) 0 there
+            ∙ ap (λ (x : Layout). x .interfaces) layout-is
+            ∙ ap (λ (n : ℕ). layoutOf (sheetAt yard n) .interfaces) (sym e))
+            (λ low. getD-set-other counts i k (l .interfaces) 0 (λ e. omega arith) ∙ c .each k low)
+            (eq-or-lt-of-le {n = k} {m = i} (omega arith));
+      }
+
+pub counted-none : (yard counts : List ℕ) → Counted yard counts 0
+counted-none yard counts = record { long = omega arith; each = λ k h. absurd (omega arith) }
+
+module _ (yard : List ℕ) (n i : ℕ) (low : i ≤ n) (high : n ≤ i) where
+  all-of : i ≡ n
+  all-of = omega arith
+
+  pub checked-all : (ok : Bool) → ok ≡ every (validAt yard) i → ok ≡ every (validAt yard) n
+  checked-all ok e = e ∙ ap (every (validAt yard)) all-of
+
+  pub counted-all : (counts : List ℕ) → Counted yard counts i → Counted yard counts n
+  counted-all counts c = rw all-of at c
 
 -- the sizes of a yard
 pub record Sized (size : ℕ) : Type 0 where
@@ -49,9 +87,9 @@ sized size e =
     record { whole = omega arith; some = leb-true 1 (size / 1024) (q .1); few = leb-true (size / 1024) 32 (p .1) }
 
 module _ (yard : List ℕ) (size : Bool) (told : size ≡ sizeOk (length yard)) where
-  pub wrong-size : not size ≡ true → false ≡ yardOk yard
+  pub wrong-size : (counts : List ℕ) → not size ≡ true → Checked yard false counts
   unfolding yardOk
-  wrong-size e = rw (← told, not-true size e)
+  wrong-size counts e = record { is = rw (← told, not-true size e); counted = λ z. let y : _≡_ {A = ℕ} 0 1 = cc in absurd (omega arith) }
 
   module _ (right : not size ≡ false) where
     yard-sized : Sized (length yard)
@@ -60,14 +98,38 @@ module _ (yard : List ℕ) (size : Bool) (told : size ≡ sizeOk (length yard)) 
     pub sheets-few : length yard / 1024 ≤ 32
     sheets-few = yard-sized .few
 
-    pub yard-checked : (ok : Bool) → ok ≡ every (validAt yard) (length yard / 1024) → ok ≡ yardOk yard
+    pub sheets-counted : (counts : List ℕ) → 32 ≤ length counts → length yard / 1024 ≤ length counts
+    sheets-counted counts h = omega (arith, yard-sized .few)
+
+    pub yard-checked : (ok : Bool) (counts : List ℕ) → (ok ≡ every (validAt yard) (length yard / 1024)) × Counted yard counts (length yard / 1024) → Checked yard ok counts
     unfolding yardOk
-    yard-checked ok e = rw (← told, not-false size right) e
+    yard-checked ok counts e = record { is = rw (← told, not-false size right) (e .0); counted = λ z. e .1 }
 
 -- a yard that is right: its sizes, and each of its sheets
 pub yard-right : (yard : List ℕ) → yardOk yard ≡ true → Sized (length yard)
 unfolding yardOk
 yard-right yard e = sized (length yard) (both-of (sizeOk (length yard)) _ e .0)
+
+-- the interface that is read, and the count of a router that is asked
+pub address-read : (s : List ℕ) (k : ℕ) (x : Interface) → x ≡ interfaceOf s k → x .address ≡ be32 s (placeOf interfaceSize 0 k)
+unfolding interfaceOf interfaceAt
+address-read s k x e = ap (λ (y : Interface). y .address) e
+
+pub count-told : (yard counts : List ℕ) (n i : ℕ) → Counted yard counts n → i < n
+    → getD counts i 0 ≡ layoutOf (take (1024 * i + 1024 - 1024 * i) (drop (1024 * i) yard)) .interfaces
+count-told yard counts n i c h = c .each i h ∙ rw (lent-sheet yard i)
+
+-- the whole search of a sheet is the search from interface k on
+module _ (s : List ℕ) (address interfaces k : ℕ) (so-far : holderOf s address ≡ searched s address k (interfaces - k)) (more : k < interfaces)
+    (x : Interface) (read : x ≡ interfaceOf s k) where
+  pub here-found : x .address ≡ address → At k ≡ holderOf s address
+  here-found = sheet-found s address k interfaces so-far more (x .address) (placeOf interfaceSize 0 k) refl (address-read s k x read)
+
+  pub here-on : (x .address ≡ address → ⊥) → holderOf s address ≡ searched s address (k + 1) (interfaces - (k + 1))
+  here-on = sheet-on s address k interfaces so-far more (x .address) (placeOf interfaceSize 0 k) refl (address-read s k x read)
+
+pub here-start : (s : List ℕ) (address interfaces : ℕ) → interfaces ≡ layoutOf s .interfaces → holderOf s address ≡ searched s address 0 (interfaces - 0)
+here-start s address interfaces e = sheet-start s (layoutOf s) refl address ∙ rw e
 
 -- the whole search is the search from router i on
 module _ (yard : List ℕ) (address n : ℕ) where

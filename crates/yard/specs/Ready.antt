@@ -1,9 +1,11 @@
 -- What the private functions of the walk ask for and answer.
 use Prim.Native.Nat.{ℕ, _+_, _*_, _≤_, _<_}
+use mathlib.Core.Bool.{Bool, true}
 use mathlib.Core.List.{List}
 use mathlib.Core.Path.{_≡_}
-use lib.ListN.{length}
+use lib.ListN.{length, getD}
 use Rattle.wire.specs.Parts.{splice}
+use Rattle.sheet.specs.Sheet.{layoutOf}
 use Rattle.message.specs.Format.{most}
 use Rattle.message.specs.Blocks.{standardCount}
 use Rattle.drops.specs.Arrival.{arrival}
@@ -11,15 +13,26 @@ use Rattle.engine.specs.Answer.{Sent, sentOn}
 use Rattle.yard.specs.declared.Call.{Call}
 use Rattle.yard.specs.declared.Hop.{Hop}
 use Rattle.yard.specs.declared.Walked.{Walked}
-use Rattle.yard.specs.Yard.{sheetSize, mostRouters, routersIn}
+use Rattle.yard.specs.Yard.{sheetSize, mostRouters, routersIn, sheetAt, yardOk}
 use Rattle.yard.specs.Walk.{Visit, visit, endOf, nextOf, nearTtl}
 
--- a router of the yard that has its sheet and its time
-pub record Ready (yard times : List ℕ) (router : ℕ) : Type 0 where
+-- how many interfaces each of n routers has
+pub record Counted (yard counts : List ℕ) (n : ℕ) : Type 0 where
+  pub long : n ≤ length counts
+  pub each : (i : ℕ) → i < n → getD counts i 0 ≡ layoutOf (sheetAt yard i) .interfaces
+
+-- the check of a yard: whether it is right, and then the interfaces of its routers
+pub record Checked (yard : List ℕ) (ok : Bool) (counts : List ℕ) : Type 0 where
+  pub is : ok ≡ yardOk yard
+  pub counted : ok ≡ true → Counted yard counts (routersIn yard)
+
+-- a router of the yard that has its sheet and its time, and the interfaces of all
+pub record Ready (yard counts times : List ℕ) (router : ℕ) : Type 0 where
   pub whole : sheetSize * routersIn yard ≤ length yard
   pub few : routersIn yard ≤ mostRouters
   pub there : router < routersIn yard
   pub timed : routersIn yard ≤ length times
+  pub counted : Counted yard counts (routersIn yard)
 
 -- a call of the engine: its answer, and the length and the destination of what it sent
 pub record Called (sent : Sent) (old : List ℕ) (r : Call) (new : List ℕ) : Type 0 where

@@ -7,12 +7,13 @@ ghost use lib.ListN.{length, getD};
 ghost use Rattle.wire.specs.Numbers.{byteAt};
 ghost use Rattle.wire.specs.Parts.{splice};
 ghost use Rattle.sheet.specs.Every.{every};
+ghost use Rattle.sheet.specs.Sheet.{layoutOf};
 ghost use Rattle.sheet.specs.Tables.{holderOf};
 ghost use Rattle.message.specs.Blocks.{standardCount};
 ghost use Rattle.drops.specs.Arrival.{arrival};
-ghost use Rattle.yard.specs.Yard.{routersIn, sheetAt, validAt, sizeOk, yardOk, holderIn};
+ghost use Rattle.yard.specs.Yard.{routersIn, validAt, sizeOk, holderIn};
 ghost use Rattle.yard.specs.Walk.{visit, sentFor, sentAt, walkFrom, Tells, WalkMeets};
-ghost use Rattle.yard.specs.Ready.{Ready, Called, Hopped, Ended};
+ghost use Rattle.yard.specs.Ready.{Counted, Checked, Ready, Called, Hopped, Ended};
 
 // What a walk answers: its end, its steps (calls of the engine), and the type 4 blocks and the length of the last message sent.
 pub struct Walked {
@@ -50,10 +51,10 @@ fn size_ok(size: usize) -> bool
     (size % 1024 == 0) & (1 <= size / 1024) & (size / 1024 <= 32)
 }
 
-// Every sheet of a yard of n is checked.
-fn sheets_ok(yard: &[u8], n: usize) -> bool
-    requires { ⌜ (n ≤ 32) × (1024 * n ≤ length (now yard)) ⌝ }
-    ensures { λ r. ⌜ r ≡ every (validAt (now (yard .entry))) n ⌝ }
+// Every sheet of a yard of n is checked, and its interfaces are counted.
+fn sheets_ok(yard: &[u8], n: usize, counts: &mut [usize]) -> bool
+    requires { ⌜ (n ≤ 32) × (1024 * n ≤ length (now yard)) × (n ≤ length (now counts)) ⌝ }
+    ensures { λ r. ⌜ (r ≡ every (validAt (now (yard .entry))) n) × Counted (now (yard .entry)) (now (counts .exit)) n ⌝ }
 {
     let mut ok = true;
     let mut i: usize = 0;
@@ -62,37 +63,49 @@ fn sheets_ok(yard: &[u8], n: usize) -> bool
         let e = a + 1024;
         let layout = sheet::check(&yard[a..e]);
         ok = ok & layout.valid;
+        counts[i] = layout.interfaces;
         i += 1;
     }
     ok
 }
 
-fn yard_ok(yard: &[u8]) -> bool
-    ensures { λ r. ⌜ r ≡ yardOk (now (yard .entry)) ⌝ }
+fn yard_ok(yard: &[u8], counts: &mut [usize]) -> bool
+    requires { ⌜ 32 ≤ length (now counts) ⌝ }
+    ensures { λ r. ⌜ Checked (now (yard .entry)) r (now (counts .exit)) ⌝ }
 {
     if !size_ok(yard.len()) {
         return false;
     }
-    sheets_ok(yard, yard.len() / 1024)
+    sheets_ok(yard, yard.len() / 1024, counts)
 }
 
-// The interface of a sheet that holds an address.
-fn held_in(sheet: &[u8], address: u32) -> Found
+// The lowest of so many interfaces of a sheet that holds an address.
+fn held_in(sheet: &[u8], interfaces: usize, address: u32) -> Found
+    requires { ⌜ interfaces ≡ layoutOf (now sheet) .interfaces ⌝ }
     ensures { λ r. ⌜ r ≡ holderOf (now (sheet .entry)) address ⌝ }
 {
-    sheet::holder(sheet, sheet::check(sheet), address)
+    let mut k: usize = 0;
+    while k < interfaces {
+        let interface = sheet::interface(sheet, k);
+        if interface.address == address {
+            return Found::At(k);
+        }
+        k += 1;
+    }
+    Found::Nothing
 }
 
 // The lowest router of n, and its lowest interface, that hold an address.
-fn holder_in(yard: &[u8], n: usize, address: u32) -> Holder
+fn holder_in(yard: &[u8], counts: &[usize], n: usize, address: u32) -> Holder
     requires { ⌜ (n ≡ routersIn (now yard)) × (n ≤ 32) × (1024 * n ≤ length (now yard)) ⌝ }
+    requires { ⌜ Counted (now yard) (now counts) n ⌝ }
     ensures { λ r. ⌜ r ≡ holderIn (now (yard .entry)) address ⌝ }
 {
     let mut i: usize = 0;
     while i < n {
         let a = 1024 * i;
         let e = a + 1024;
-        let found = held_in(&yard[a..e], address);
+        let found = held_in(&yard[a..e], counts[i], address);
         if let Found::At(k) = found {
             return Holder::Held(i, k);
         }
@@ -137,6 +150,7 @@ fn ask(
 // The engine's call at a router, and what becomes of what it sent: 102 sent to a group, 103 nobody holds the address.
 fn enter(
     yard: &[u8],
+    counts: &[usize],
     times: &[u32],
     router: usize,
     message: &[u8],
@@ -145,7 +159,7 @@ fn enter(
     ttl: u32,
     sent: &mut [u8],
 ) -> Hop
-    requires { ⌜ Ready (now yard) (now times) router ⌝ }
+    requires { ⌜ Ready (now yard) (now counts) (now times) router ⌝ }
     requires { ⌜ length (now sent) ≡ 1472 ⌝ }
     ensures { λ r. ⌜ Hopped (now (yard .entry))
         (sentAt (now (yard .entry)) (now (times .entry)) (visit router (arrival (now (message .entry)) destination receiving ttl)))
@@ -182,7 +196,7 @@ fn enter(
             interface: 0,
         };
     }
-    let holder = holder_in(yard, yard.len() / 1024, to);
+    let holder = holder_in(yard, counts, yard.len() / 1024, to);
     match holder {
         Holder::Held(i, k) => Hop {
             end: 100,
@@ -230,6 +244,7 @@ fn finish(end: u32, sent: &[u8], output: &mut [u8]) -> Walked
 // A router is entered, and from there the walk goes on: the hops not yet used fall with each.
 fn go(
     yard: &[u8],
+    counts: &[usize],
     times: &[u32],
     router: usize,
     message: &[u8],
@@ -238,7 +253,7 @@ fn go(
     ttl: u32,
     output: &mut [u8],
 ) -> Walked
-    requires { ⌜ Ready (now yard) (now times) router ⌝ }
+    requires { ⌜ Ready (now yard) (now counts) (now times) router ⌝ }
     requires { ⌜ 1472 ≤ length (now output) ⌝ }
     ensures { λ r. ⌜ Tells
         (walkFrom (now (yard .entry)) (now (times .entry)) (visit router (arrival (now (message .entry)) destination receiving ttl)))
@@ -247,6 +262,7 @@ fn go(
     let mut sent = [0u8; 1472];
     let h = enter(
         yard,
+        counts,
         times,
         router,
         message,
@@ -261,6 +277,7 @@ fn go(
     }
     let w = go(
         yard,
+        counts,
         times,
         h.router,
         &sent[..length],
@@ -269,9 +286,10 @@ fn go(
         255,
         output,
     );
+    let steps = w.steps + 1;
     Walked {
         end: w.end,
-        steps: w.steps + 1,
+        steps,
         blocks: w.blocks,
         length: w.length,
     }
@@ -318,7 +336,8 @@ pub fn walk(
     if output.len() < 1472 {
         return refuse(1);
     }
-    if !yard_ok(yard) {
+    let mut counts = [0usize; 32];
+    if !yard_ok(yard, &mut counts) {
         return refuse(21);
     }
     if times.len() < routers {
@@ -332,6 +351,7 @@ pub fn walk(
     }
     go(
         yard,
+        &counts,
         times,
         router,
         message,

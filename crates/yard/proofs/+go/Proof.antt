@@ -12,14 +12,14 @@ use Rattle.yard.proofs.finish.Reads as finish-reads
 use Rattle.yard.proofs.+go.{statement}
 use Rattle.yard.proofs.+go.Tie.{close}
 
-abbrev μ-go : Measures 4 go-kinds.ps ℕ
-μ-go κs a = unused (a .1 .1 .1 .0 .now)
+abbrev μ-go : Measures 5 go-kinds.ps ℕ
+μ-go κs a = unused (a .1 .1 .1 .1 .0 .now)
 
-abbrev go-at : ℕ → In 4 go-kinds.ps
-go-at t = and 4 go-kinds.ps (is 4 go-kinds.ps μ-go t) go.Pre
+abbrev go-at : ℕ → In 5 go-kinds.ps
+go-at t = and 5 go-kinds.ps (is 5 go-kinds.ps μ-go t) go.Pre
 
-abbrev go-below : ℕ → In 4 go-kinds.ps
-go-below t = and 4 go-kinds.ps (falls 4 go-kinds.ps _<_ μ-go t) go.Pre
+abbrev go-below : ℕ → In 5 go-kinds.ps
+go-below t = and 5 go-kinds.ps (falls 5 go-kinds.ps _<_ μ-go t) go.Pre
 
 -- what the callees ask and tell
 abbrev calls : ℕ → go-lts.Claims
@@ -66,8 +66,8 @@ go-go-requires : (t : ℕ) → go-lts.Need-go-requires (calls t) (go-at t) go.Po
 go-go-requires t c κs = (search unused-falls, (search ready-next, search needs))
 
 -- src/lib.rt:274:16
-go-add-t24 : (t : ℕ) → go-lts.Need-add-t24 (calls t) (go-at t) go.Post
-go-add-t24 t c = record { fits = search steps-fit }
+go-add-steps : (t : ℕ) → go-lts.Need-add-steps (calls t) (go-at t) go.Post
+go-add-steps t c = record { fits = search steps-fit }
 
 -- src/lib.rt:231:1
 go-same-length-2 : (t : ℕ) → go-lts.Need-same-length-2 (calls t) (go-at t) go.Post
@@ -91,6 +91,6 @@ pub +go-spec : {M : Type 1} → statement M
     (go-array-share-prefix-sent-2 t)
     (go-slice-aggregate-go t)
     (go-go-requires t)
-    (go-add-t24 t)
+    (go-add-steps t)
     (go-same-length-2 t)
     (go-returns-2 t)
