@@ -10,7 +10,7 @@ fail() {
 }
 
 if ! command -v ip > /dev/null; then
-    apt-get install -y -qq iproute2 > /dev/null 2>&1 || fail "iproute2 is missing and could not be installed"
+    { apt-get update -qq && apt-get install -y -qq iproute2; } > /dev/null 2>&1 || fail "iproute2 is missing and could not be installed"
 fi
 
 tag=bough$$
