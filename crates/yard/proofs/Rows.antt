@@ -1,16 +1,15 @@
 -- A law for each way out of a function: what its tests showed and what its callees answered, and the definition's answer.
-use Prim.Native.Nat.{ℕ, zero, suc, _+_, _*_, _/_, _-_, _≤_, _<_}
-use mathlib.Core.Bool.{Bool, true, false, not}
+use Prim.Native.Nat.{ℕ, _+_, _*_, _-_, _≤_, _<_}
+use mathlib.Core.Bool.{Bool, true, false}
 use mathlib.Core.List.{List, [], _∷_}
 use mathlib.Core.Logic.{⊎-elim}
 use mathlib.Core.Path.{_≡_, refl, sym, ap, _∙_}
 use native.Mathlib.Omega.{arith}
-use borrow.Author.Tests.{eq-eqb, ne-eqb, eqb-true, eqb-false, lt-ltb, le-ltb, le-leb, lt-leb, not-true, not-false}
+use borrow.Author.Tests.{eqb-true, eqb-false}
 use lib.Dec.{eqb}
 use lib.ListN.{length, take, drop, getD, drop-of-length-le, length-append}
 use lib.Seq.{take-append-seam}
 use Rattle.wire.specs.Numbers.{byteAt}
-use Rattle.wire.specs.Parts.{splice}
 use Rattle.wire.specs.Addresses.{multicast}
 use Rattle.wire.proofs.Flags.{decided}
 use Rattle.wire.proofs.Laws.{splice-front}
@@ -29,12 +28,12 @@ use Rattle.yard.specs.declared.Hop.{Hop}
 use Rattle.yard.specs.declared.Walked.{Walked}
 use Rattle.yard.specs.declared.Holder.{Holder}
 use Rattle.yard.specs.declared.Holder.the-variants.{Held, Nobody}
-use Rattle.yard.specs.Yard.{routersIn, sheetAt, holderIn}
-use Rattle.yard.specs.Walk.{nearTtl, unused, Visit, visit, sentFor, sentAt, endBy, endOf, nextOf, walkFrom, Tells}
+use Rattle.yard.specs.Yard.{sheetAt, holderIn}
+use Rattle.yard.specs.Walk.{unused, Visit, visit, sentFor, sentAt, endBy, endOf, nextOf, walkFrom, Tells}
 use Rattle.yard.specs.Ready.{Ready, Called, Hopped, Ended}
 use Rattle.yard.proofs.Sheets.{lent-sheet, holder-found}
 use Rattle.yard.proofs.Calls.{sent-dropped}
-use Rattle.yard.proofs.Turns.{Accepts, end-not-on, end-group, end-held, goes-on, next-is, falls, sent-short, from-ends, from-on}
+use Rattle.yard.proofs.Turns.{end-not-on, end-group, end-held, goes-on, falls, sent-short, from-ends, from-on}
 use Rattle.yard.proofs.Traces.{walk-traced, received-right, steps-by-room}
 
 -- nothing has a first byte
