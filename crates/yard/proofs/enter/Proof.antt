@@ -10,8 +10,8 @@ returns c = search hop-ends
 returns-2 : tie.Need-returns-2
 returns-2 c = search hop-group
 
-cast-t30 : tie.Need-cast-t30
-cast-t30 c = search held-fits
+cast-t29 : tie.Need-cast-t29
+cast-t29 c = search held-fits
 
 returns-3 : tie.Need-returns-3
 returns-3 c = search hop-on
@@ -31,15 +31,18 @@ enter-spec =
     (λ c. search needs)
     (λ c. search needs)
     (λ c κs. search needs)
+    (λ c κs. search needs)
     (λ c. search needs)
     returns
+    (λ c κs. search needs)
     (λ c κs. search needs)
     (λ c. search needs)
     returns-2
     (λ c κs. search needs)
     (λ c. search needs)
-    cast-t30
+    cast-t29
     (λ c. search needs)
+    (λ c κs. search needs)
     (λ c. search needs)
     returns-3
     (λ c. search needs)
