@@ -2,4 +2,3 @@
 pub mod Tests
 pub mod Laws
 pub mod Determined
-pub mod Worked

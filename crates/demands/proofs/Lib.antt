@@ -1,2 +1,3 @@
--- The demands, each in a line that cites its proof, and the worked examples.
+-- The demands, each in a line or two that cites its proof, and the worked examples.
 pub mod Worked
+pub mod Demands

@@ -5,7 +5,7 @@ use lib.ListN.{length, replicate}
 use Rattle.wire.specs.Numbers.{bytes16, bytes32, bytes64}
 use Rattle.block.specs.Sum.{sumFrom}
 use Rattle.drops.specs.Arrival.{arrival}
-use Rattle.yard.specs.Walk.{Visit, visit, Walk, walkOf}
+use Rattle.yard.specs.Walk.{visit, Walk, walkOf}
 
 -- an address by its four octets
 abbrev pub address : ℕ → ℕ → ℕ → ℕ → ℕ

@@ -1,23 +1,21 @@
 -- Laws of drops: what arrives is dropped by a number from 1 to 19, with nothing lent changed, or it is answered by 100 or 101.
 -- What is known of an accepted arrival is one record, and whatever is so is accepted.
-use Prim.Native.Nat.{ℕ, zero, suc, _+_, _≤_, _<_}
+use Prim.Native.Nat.{ℕ, _+_, _≤_, _<_}
 use mathlib.Core.Bool.{Bool, true, false, not, cond, _&&_, _||_}
 use mathlib.Core.List.{List}
-use mathlib.Core.Logic.{_⊎_, inl, inr, ⊎-elim}
-use mathlib.Core.Path.{_≡_, refl, sym, ap, _∙_}
+use mathlib.Core.Logic.{_⊎_, ⊎-elim}
+use mathlib.Core.Path.{_≡_, refl}
 use native.Mathlib.Omega.{arith}
 use lib.Dec.{leb, ltb, eqb, lit≤}
 use lib.ListN.{length}
-use borrow.Author.Tests.{lt-ltb, le-ltb, le-leb, lt-leb, eq-eqb, ne-eqb, ltb-true, ltb-false, leb-false, eqb-true, eqb-false, not-true, not-false}
+use borrow.Author.Tests.{le-ltb, lt-leb, eq-eqb, ne-eqb, ltb-true, ltb-false, leb-false, eqb-true, eqb-false, not-false}
 use Rattle.wire.specs.Addresses.{linkScoped}
 use Rattle.wire.proofs.First.{passed, cond-cases}
 use Rattle.wire.proofs.Flags.{decided}
 use Rattle.recent.specs.Layout.{wellFormed}
 use Rattle.recent.specs.Entries.{seenIn}
-use Rattle.sheet.specs.declared.layout.Layout.{Layout}
 use Rattle.sheet.specs.Sheet.{layoutOf}
 use Rattle.sheet.specs.Tables.{holderOf}
-use Rattle.message.specs.declared.Header.{Header}
 use Rattle.message.specs.Format.{most, standardSize}
 use Rattle.message.specs.Header.{headerOf}
 use Rattle.message.specs.Blocks.{standardCount}
@@ -26,7 +24,7 @@ use Rattle.message.proofs.Accept.{Accepted, none-applies, applies-none, number-
 use Rattle.drops.specs.Arrival.{Arrival, isQuery, isRequest, lastHopFor}
 use Rattle.drops.specs.Drop.{noteSize, isHeld, isFull, orElse, lendingRow, deliveryRow, routeRow, dropOf}
 use Rattle.engine.specs.Answer.{sentBy}
-use Rattle.engine.specs.Step.{Outcome, outcome, answeredBy, accepted, stepOf}
+use Rattle.engine.specs.Step.{outcome, answeredBy, accepted, stepOf}
 
 -- what no row of the drop table applies to
 pub record Taken (a : Arrival) (sheet recent : List ℕ) (output note : ℕ) : Type 0 where

@@ -1,23 +1,22 @@
 -- Laws of a Request sent on: it has one type 4 block more than what was received and the same header but for the type, so that
 -- the hops not yet used fall by one; it goes to a unicast address or to 224.0.0.2; and the router that it reaches does not drop it.
 use Prim.Native.Nat.{ℕ, suc, _+_, _-_, _≤_, _<_}
-use mathlib.Core.Bool.{Bool, true, false, not, _&&_, _||_}
+use mathlib.Core.Bool.{Bool, true, false, _||_}
 use mathlib.Core.List.{List}
 use mathlib.Core.Logic.{_⊎_, inl, inr, ⊎-elim}
-use mathlib.Core.Path.{_≡_, refl, sym, ap, _∙_}
+use mathlib.Core.Path.{_≡_, refl, _∙_}
 use native.Mathlib.Omega.{arith}
 use native.Mathlib.Nat.{eq-or-lt-of-le}
-use borrow.Author.Tests.{lt-leb, leb-false, ne-eqb, eq-eqb, eqb-false, eqb-true}
+use borrow.Author.Tests.{lt-leb, leb-false, ne-eqb, eq-eqb, eqb-false}
 use lib.Dec.{leb, eqb, lit≤}
 use lib.ListN.{length}
 use Rattle.wire.specs.Addresses.{unicast, allOnes}
 use Rattle.wire.proofs.Flags.{decided}
 use Rattle.recent.specs.Entries.{empty}
-use Rattle.recent.proofs.Laws.{empty-well-formed, empty-seen}
+use Rattle.recent.proofs.Laws.{empty-well-formed}
 use Rattle.entry.specs.Route.{isRp}
 use Rattle.entry.specs.declared.route.Route.{Route}
 use Rattle.sheet.specs.declared.tables.Found.the-variants.{At}
-use Rattle.sheet.specs.Sheet.{layoutOf}
 use Rattle.sheet.specs.Tables.{routesOf, holderOf}
 use Rattle.sheet.proofs.Entries.{valid-told, interface-valid}
 use Rattle.sheet.proofs.Holders.{holder-there}
@@ -27,10 +26,8 @@ use Rattle.route.specs.Choice.{whichRoute}
 use Rattle.route.proofs.Laws.{chosen-kept}
 use Rattle.response.specs.declared.View.{View}
 use Rattle.response.specs.declared.Incoming.{Incoming}
-use Rattle.response.specs.declared.Note.{Note}
-use Rattle.response.specs.Fill.{allRouters, upstreamOf, blockOf, endsFor, endsTrace}
+use Rattle.response.specs.Fill.{allRouters, upstreamOf, blockOf, endsTrace}
 use Rattle.response.specs.Bytes.{blockBytes}
-use Rattle.response.proofs.Laws.{full-count-ends}
 use Rattle.message.specs.Format.{most, query, request, standardSize}
 use Rattle.message.specs.Header.{headerOf}
 use Rattle.message.specs.Blocks.{standardCount, lastStandard}
@@ -38,11 +35,11 @@ use Rattle.message.proofs.Fields.{retyped}
 use Rattle.message.proofs.Standards.{standards-fit}
 use Rattle.message.proofs.Accept.{Accepted, accepted-kinds, accepted-query}
 use Rattle.message.proofs.Sent.{sent-header, sent-count, sent-last, sent-accepted}
-use Rattle.drops.specs.Arrival.{Arrival, arrival, isRequest, routeFor}
+use Rattle.drops.specs.Arrival.{Arrival, arrival, routeFor}
 use Rattle.drops.specs.Drop.{noteSize, dropOf}
 use Rattle.engine.specs.View.{viewWith, viewOf}
-use Rattle.engine.specs.Answer.{Sent, sentOn, home, on, noteOn, longerMessage, sentBy}
-use Rattle.engine.proofs.LawsDrop.{Taken, taken, not-dropped}
+use Rattle.engine.specs.Answer.{Sent, sentOn, on, noteOn, longerMessage, sentBy}
+use Rattle.engine.proofs.LawsDrop.{Taken, not-dropped}
 use Rattle.engine.proofs.LawsSent.{sent-cases, longer-as, longer-length, block-standard}
 
 -- the type 4 blocks of an accepted message stay below its hops

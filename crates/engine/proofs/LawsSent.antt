@@ -3,13 +3,11 @@
 use Prim.Native.Nat.{ℕ, _+_, _≤_, _<_}
 use mathlib.Core.Bool.{Bool, true, false}
 use mathlib.Core.List.{List, _++_}
-use mathlib.Core.Logic.{_⊎_, inl, inr, ⊎-elim}
-use mathlib.Core.Path.{_≡_, refl, sym, ap, _∙_}
+use mathlib.Core.Logic.{_⊎_, inl, inr}
+use mathlib.Core.Path.{_≡_, refl, sym, _∙_}
 use native.Mathlib.Omega.{arith}
-use native.Mathlib.Nat.{add-zero}
-use borrow.Author.Tests.{lt-ltb, le-ltb, ltb-true, ltb-false}
-use lib.Dec.{lit≤}
-use lib.ListN.{length, take, drop, set, length-set, length-append, List·getD-append}
+use borrow.Author.Tests.{ltb-true, ltb-false}
+use lib.ListN.{length, take, set, length-set, length-append, List·getD-append}
 use lib.Seq.{take-at, drop-at, take-all, getD-append-add, getD-set-same, set-append-left}
 use Rattle.wire.specs.Numbers.{byteAt, be, bytes}
 use Rattle.wire.specs.Parts.{part}
@@ -22,7 +20,6 @@ use Rattle.response.specs.Code.{wrongLastHop, testsOf, codeOf}
 use Rattle.response.specs.Fill.{blockOf, endsTrace}
 use Rattle.response.specs.Bytes.{blockBytes}
 use Rattle.response.proofs.Laws.{Noted, results, code-is-first, block-length, no-route-ends, hidden-no-route}
-use Rattle.message.specs.declared.Header.{Header}
 use Rattle.message.specs.Format.{most, request, reply, standardSize, codeOffset}
 use Rattle.message.specs.Header.{headerOf}
 use Rattle.message.specs.Blocks.{standards, standardCount, lastStandard, StandardBlock}
@@ -34,7 +31,7 @@ use Rattle.drops.specs.Drop.{isFull, dropOf}
 use Rattle.engine.specs.View.{viewWith, viewOf}
 use Rattle.engine.specs.Answer.{Sent, sentOn, sentHome, noSpace, home, on, fullMessage, longerMessage, longerAnswer, sentBy}
 use Rattle.engine.specs.Step.{stepOf}
-use Rattle.engine.proofs.LawsDrop.{Taken, taken, taken-is-sent}
+use Rattle.engine.proofs.LawsDrop.{taken-is-sent}
 
 -- a message with a type written and a block behind it
 module _ (kind : ℕ) (m : List ℕ) (b : Block) where

@@ -1,16 +1,16 @@
 -- Laws of a call of the engine, by its promise alone: what it answers and sends, and what is read from its record.
-use Prim.Native.Nat.{ℕ, suc, _+_, _*_, _/_, _-_, _≤_, _<_}
-use mathlib.Core.Bool.{Bool, true, false, not, _&&_}
-use mathlib.Core.List.{List, []}
+use Prim.Native.Nat.{ℕ, _+_, _/_, _-_, _≤_, _<_}
+use mathlib.Core.Bool.{true, not, _&&_}
+use mathlib.Core.List.{List}
 use mathlib.Core.Logic.{_⊎_, inl, inr, ⊎-elim}
-use mathlib.Core.Path.{_≡_, refl, sym, ap, _∙_}
+use mathlib.Core.Path.{_≡_, sym, ap, _∙_}
 use native.Mathlib.Omega.{arith}
 use borrow.Author.Tests.{eq-eqb, ne-eqb, eqb-true, eqb-false, leb-true}
-use lib.Dec.{leb, eqb, lit≤}
-use lib.ListN.{length, take, drop, getD, replicate}
+use lib.Dec.{leb, eqb}
+use lib.ListN.{length, replicate}
 use Rattle.wire.specs.Numbers.{be, be16, be32, bytes}
 use Rattle.wire.specs.Parts.{splice}
-use Rattle.wire.specs.Addresses.{unicast, multicast}
+use Rattle.wire.specs.Addresses.{unicast}
 use Rattle.wire.proofs.Flags.{decided, both-of}
 use Rattle.wire.proofs.Laws.{be-within}
 use Rattle.recent.specs.Entries.{empty}
@@ -20,14 +20,13 @@ use Rattle.response.specs.Bytes.{noteBytes}
 use Rattle.response.proofs.Laws.{note-length}
 use Rattle.message.specs.Format.{most}
 use Rattle.message.specs.Header.{headerOf}
-use Rattle.drops.specs.Arrival.{Arrival, arrival}
+use Rattle.drops.specs.Arrival.{Arrival}
 use Rattle.drops.specs.Drop.{noteSize, dropOf}
-use Rattle.engine.specs.Answer.{Sent, sentOn, sentBy}
-use Rattle.engine.specs.Step.{Outcome, outcome, answeredBy, stepOf, StepMeets}
-use Rattle.engine.proofs.LawsDrop.{Taken, taken, drop-changes-nothing, taken-is-sent}
+use Rattle.engine.specs.Answer.{sentBy}
+use Rattle.engine.specs.Step.{Outcome, outcome, answeredBy, stepOf}
+use Rattle.engine.proofs.LawsDrop.{taken, drop-changes-nothing, taken-is-sent}
 use Rattle.engine.proofs.LawsSent.{sent-fits}
 use Rattle.engine.proofs.LawsOn.{sent-to, sent-noted}
-use Rattle.yard.specs.declared.Call.{Call}
 use Rattle.yard.specs.Walk.{notSent, sentFor}
 use Rattle.yard.specs.Ready.{Called}
 

@@ -2,20 +2,17 @@
 -- steps and within 28; no later router drops; and block k of the last message is the one that the engine's definition gives for
 -- router k and the message that it received.
 use Prim.Native.Nat.{ℕ, zero, suc, _+_, _*_, _-_, _≤_, _<_}
-use mathlib.Core.Bool.{Bool, true, false}
 use mathlib.Core.List.{List, [], _∷_, _++_}
-use mathlib.Core.Logic.{_⊎_}
-use mathlib.Core.Path.{_≡_, refl, sym, ap, _∙_}
+use mathlib.Core.Path.{_≡_, ap, _∙_}
 use native.Mathlib.Omega.{arith}
 use lib.ListN.{length, take, drop, getD, set}
 use lib.Seq.{take-at, drop-drop, drop-append-add, drop-set-lt, drop-set-add, take-set-le, take-set-lt, getD-take, length-take-le}
 use Rattle.wire.specs.Parts.{part}
 use Rattle.response.specs.Bytes.{blockBytes}
 use Rattle.response.proofs.Laws.{block-length}
-use Rattle.message.specs.Format.{most, headerSize, standardSize, codeOffset, reply}
-use Rattle.message.specs.Header.{headerOf}
-use Rattle.message.specs.Blocks.{standardCount, lastStandard}
-use Rattle.engine.specs.Answer.{sentHome, noSpace, fullMessage}
+use Rattle.message.specs.Format.{headerSize, standardSize, codeOffset, reply}
+use Rattle.message.specs.Blocks.{lastStandard}
+use Rattle.engine.specs.Answer.{noSpace, fullMessage}
 use Rattle.yard.specs.Walk.{Visit}
 use Rattle.yard.proofs.Turns.{blockFor}
 use Rattle.yard.proofs.Traces.{Trace}

@@ -3,19 +3,18 @@
 -- 0x81 stands in the block before.
 use Prim.Native.Nat.{ℕ, zero, suc, _+_, _*_, _-_, _≤_, _<_}
 use mathlib.Core.List.{List, [], _∷_, _++_, append-assoc, append-nil}
-use mathlib.Core.Path.{_≡_, refl, sym, ap, _∙_}
+use mathlib.Core.Path.{_≡_, refl, ap, _∙_}
 use native.Mathlib.Omega.{arith}
-use lib.ListN.{length, take, drop, getD, set, length-append, length-set}
+use lib.ListN.{length, take, drop, getD, set, length-append}
 use Rattle.response.specs.declared.Block.{Block}
 use Rattle.response.specs.Bytes.{blockBytes}
 use Rattle.response.proofs.Laws.{block-length}
 use Rattle.message.specs.Format.{most, request, reply, standardSize}
 use Rattle.message.specs.Blocks.{standardCount, lastStandard}
-use Rattle.message.proofs.Accept.{Accepted}
 use Rattle.engine.specs.Answer.{fullMessage, longerMessage}
 use Rattle.engine.proofs.LawsSent.{longer-blocks, full-standards}
-use Rattle.yard.specs.Walk.{Visit, sentAt, nextOf}
-use Rattle.yard.proofs.Turns.{Accepts, blockFor, Onward, Ending, full, home, group, nobody, next-is}
+use Rattle.yard.specs.Walk.{Visit}
+use Rattle.yard.proofs.Turns.{Accepts, blockFor, full, home, group, nobody, next-is}
 use Rattle.yard.proofs.Traces.{Trace, ends, goes, received-right, first-visit}
 
 -- the blocks that some visits give, one behind the other

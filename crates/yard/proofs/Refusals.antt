@@ -1,9 +1,8 @@
 -- A law for each way out of `walk`: the refusals in their order, and the walk itself.
-use Prim.Native.Nat.{ℕ, suc, _*_, _/_, _≤_, _<_}
+use Prim.Native.Nat.{ℕ, _/_, _≤_, _<_}
 use mathlib.Core.Bool.{Bool, true, false, not}
-use mathlib.Core.List.{List, []}
-use mathlib.Core.Path.{_≡_, refl, sym, ap, _∙_}
-use native.Mathlib.Omega.{arith}
+use mathlib.Core.List.{List}
+use mathlib.Core.Path.{_≡_, refl, sym, _∙_}
 use borrow.Author.Tests.{lt-ltb, le-ltb, le-leb, lt-leb, not-true, not-false}
 use lib.Dec.{eqb}
 use lib.ListN.{length}
@@ -11,10 +10,10 @@ use Rattle.wire.specs.Numbers.{byteAt}
 use Rattle.wire.specs.Parts.{splice}
 use Rattle.message.specs.Blocks.{blocksBy, blocksFrom, blocksOf, standardPlaces, standards}
 use Rattle.yard.specs.declared.Walked.{Walked}
-use Rattle.yard.specs.Yard.{routersIn, yardOk}
-use Rattle.yard.specs.Walk.{Visit, Walk, refused, walkFrom, walkOf, Tells}
+use Rattle.yard.specs.Yard.{yardOk}
+use Rattle.yard.specs.Walk.{Visit, refused, walkFrom, walkOf, Tells}
 use Rattle.yard.specs.Ready.{Checked, Ready}
-use Rattle.yard.proofs.Sheets.{Sized, yard-right}
+use Rattle.yard.proofs.Sheets.{yard-right}
 
 -- the answer of a refused walk
 abbrev none : ℕ → Walked

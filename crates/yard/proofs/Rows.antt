@@ -1,16 +1,15 @@
 -- A law for each way out of a function: what its tests showed and what its callees answered, and the definition's answer.
-use Prim.Native.Nat.{ℕ, zero, suc, _+_, _*_, _/_, _-_, _≤_, _<_}
-use mathlib.Core.Bool.{Bool, true, false, not}
+use Prim.Native.Nat.{ℕ, _+_, _*_, _-_, _≤_, _<_}
+use mathlib.Core.Bool.{Bool, true, false}
 use mathlib.Core.List.{List, [], _∷_}
 use mathlib.Core.Logic.{⊎-elim}
 use mathlib.Core.Path.{_≡_, refl, sym, ap, _∙_}
 use native.Mathlib.Omega.{arith}
-use borrow.Author.Tests.{eq-eqb, ne-eqb, eqb-true, eqb-false, lt-ltb, le-ltb, le-leb, lt-leb, not-true, not-false}
+use borrow.Author.Tests.{eqb-true, eqb-false}
 use lib.Dec.{eqb}
 use lib.ListN.{length, take, drop, getD, drop-of-length-le, length-append}
 use lib.Seq.{take-append-seam}
 use Rattle.wire.specs.Numbers.{byteAt}
-use Rattle.wire.specs.Parts.{splice}
 use Rattle.wire.specs.Addresses.{multicast}
 use Rattle.wire.proofs.Flags.{decided}
 use Rattle.wire.proofs.Laws.{splice-front}
@@ -29,12 +28,12 @@ use Rattle.yard.specs.declared.Hop.{Hop}
 use Rattle.yard.specs.declared.Walked.{Walked}
 use Rattle.yard.specs.declared.Holder.{Holder}
 use Rattle.yard.specs.declared.Holder.the-variants.{Held, Nobody}
-use Rattle.yard.specs.Yard.{routersIn, sheetAt, holderIn}
-use Rattle.yard.specs.Walk.{nearTtl, unused, Visit, visit, sentFor, sentAt, endBy, endOf, nextOf, walkFrom, Tells}
+use Rattle.yard.specs.Yard.{sheetAt, holderIn}
+use Rattle.yard.specs.Walk.{unused, Visit, visit, sentFor, sentAt, endBy, endOf, nextOf, walkFrom, Tells}
 use Rattle.yard.specs.Ready.{Ready, Called, Hopped, Ended}
 use Rattle.yard.proofs.Sheets.{lent-sheet, holder-found}
 use Rattle.yard.proofs.Calls.{sent-dropped}
-use Rattle.yard.proofs.Turns.{Accepts, end-not-on, end-group, end-held, goes-on, next-is, falls, sent-short, from-ends, from-on}
+use Rattle.yard.proofs.Turns.{end-not-on, end-group, end-held, goes-on, falls, sent-short, from-ends, from-on}
 use Rattle.yard.proofs.Traces.{walk-traced, received-right, steps-by-room}
 
 -- nothing has a first byte
@@ -67,12 +66,13 @@ module _ (yard : List ℕ) (router time : ℕ) (a : Arrival) (old new : List ℕ
   hop end i k = record { end = end; length = c .length; to = c .to; router = i; interface = k }
 
   -- an end: nowhere to go on to
-  ended : (end : ℕ) → end ≡ endOf yard sent → (end ≡ sentOn → ⊥) → Hopped yard sent old (hop end 0 0) new
-  ended end e other =
-      record { end = e; long = asked .long; sends = asked .sends; next = λ on. absurd (other on); there = λ on. absurd (other on) }
+  ended : (end : ℕ) (h : Hop) → h ≡ hop end 0 0 → end ≡ endOf yard sent → (end ≡ sentOn → ⊥) → Hopped yard sent old h new
+  ended end h is e other =
+      rw is
+      (record { end = e; long = asked .long; sends = asked .sends; next = λ on. absurd (other on); there = λ on. absurd (other on) })
 
-  pub hop-ends : (c .answer ≡ 100 → ⊥) → Hopped yard sent old (hop (c .answer) 0 0) new
-  hop-ends other = ended (c .answer) (asked .answer ∙ sym (end-not-on yard sent (λ e. other (asked .answer ∙ e)))) other
+  pub hop-ends : (c .answer ≡ 100 → ⊥) → (h : Hop) → h ≡ hop (c .answer) 0 0 → Hopped yard sent old h new
+  hop-ends other h is = ended (c .answer) h is (asked .answer ∙ sym (end-not-on yard sent (λ e. other (asked .answer ∙ e)))) other
 
   module _ (on : c .answer ≡ 100) (x : Bool) (told : x ≡ multicast (c .to)) where
     on-sent : sent .answer ≡ sentOn
@@ -81,8 +81,8 @@ module _ (yard : List ℕ) (router time : ℕ) (a : Arrival) (old new : List ℕ
     to-group : multicast (sent .note .destination) ≡ x
     to-group = ap multicast (sym (asked .to)) ∙ sym told
 
-    pub hop-group : x ≡ true → Hopped yard sent old (hop 102 0 0) new
-    hop-group g = ended 102 (sym (end-group yard sent on-sent (to-group ∙ g))) (λ e. omega arith)
+    pub hop-group : x ≡ true → (h : Hop) → h ≡ hop 102 0 0 → Hopped yard sent old h new
+    hop-group g h is = ended 102 h is (sym (end-group yard sent on-sent (to-group ∙ g))) (λ e. omega arith)
 
     module _ (no-group : x ≡ false) (h : Holder) (holder : h ≡ holderIn yard (c .to)) where
       held-by : holderIn yard (sent .note .destination) ≡ h
@@ -91,8 +91,8 @@ module _ (yard : List ℕ) (router time : ℕ) (a : Arrival) (old new : List ℕ
       end-is : endOf yard sent ≡ endBy h
       end-is = end-held yard sent on-sent (to-group ∙ no-group) ∙ ap endBy held-by
 
-      pub hop-nobody : h ≡ Nobody → Hopped yard sent old (hop 103 0 0) new
-      hop-nobody e = ended 103 (sym (end-is ∙ ap endBy e)) (λ z. omega arith)
+      pub hop-nobody : h ≡ Nobody → (n : Hop) → n ≡ hop 103 0 0 → Hopped yard sent old n new
+      hop-nobody e n is = ended 103 n is (sym (end-is ∙ ap endBy e)) (λ z. omega arith)
 
       pub hop-on : (i k : ℕ) → h ≡ Held i k → Hopped yard sent old (hop 100 i k) new
       hop-on i k e =

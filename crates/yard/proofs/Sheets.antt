@@ -7,7 +7,7 @@ use mathlib.Core.Path.{_≡_, refl, sym, ap, _∙_}
 use native.Mathlib.Omega.{arith}
 use native.Mathlib.Nat.{add-sub-cancel-left, eq-or-lt-of-le}
 use native.Mathlib.Numerals.{add-one}
-use borrow.Author.Tests.{leb-true, eqb-true, not-true, not-false}
+use borrow.Author.Tests.{leb-true, not-true, not-false}
 use lib.Dec.{leb, eqb}
 use lib.ListN.{length, take, drop, getD, set, length-set}
 use lib.Seq.{getD-set-same, getD-set-other}
@@ -24,7 +24,6 @@ use Rattle.sheet.specs.declared.tables.Found.the-variants.{At, Nothing}
 use Rattle.sheet.proofs.Entries.{interfaces-few}
 use Rattle.sheet.proofs.Holders.{holder-there}
 use Rattle.sheet.proofs.Reading.{searched, search-start as sheet-start, search-found as sheet-found, search-on as sheet-on}
-use Rattle.yard.specs.declared.Holder.{Holder}
 use Rattle.yard.specs.declared.Holder.the-variants.{Held, Nobody}
 use Rattle.yard.specs.Ready.{Counted, Checked}
 use Rattle.yard.specs.Yard.{routersIn, sheetAt, validAt, sizeOk, yardOk, heldBy, lowestFrom, holderIn}

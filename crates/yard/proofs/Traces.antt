@@ -1,26 +1,21 @@
 -- Every walk whose first router accepts is a trace: visit after visit, each of which accepts, up to an end. What is said of all
 -- walks is said of traces, by a line for each of the two ways to go on from a visit.
 use Prim.Native.Nat.{ℕ, zero, suc, _+_, _*_, _-_, _≤_, _<_}
-use mathlib.Core.Bool.{Bool, true, false}
-use mathlib.Core.List.{List, [], _∷_, _++_, append-assoc, append-nil}
+use mathlib.Core.List.{List, [], _∷_}
 use mathlib.Core.Logic.{_⊎_, inl, inr, ⊎-elim}
-use mathlib.Core.Path.{_≡_, refl, sym, ap, _∙_}
+use mathlib.Core.Path.{_≡_, refl}
 use native.Mathlib.Omega.{arith}
 use borrow.Author.Tests.{eqb-true, eqb-false}
 use lib.Dec.{eqb}
-use lib.ListN.{length, take, drop, getD, set, length-append, length-set}
+use lib.ListN.{length, getD}
 use Rattle.wire.proofs.Flags.{decided}
 use Rattle.recent.specs.Entries.{empty}
-use Rattle.response.specs.declared.Block.{Block}
-use Rattle.response.specs.Bytes.{blockBytes}
-use Rattle.response.proofs.Laws.{block-length}
-use Rattle.message.specs.Format.{most, request, reply, standardSize}
-use Rattle.message.specs.Blocks.{standardCount}
+use Rattle.message.specs.Format.{most, standardSize}
 use Rattle.message.proofs.Accept.{Accepted}
 use Rattle.drops.specs.Drop.{noteSize}
-use Rattle.engine.specs.Answer.{sentOn, sentHome, fullMessage, longerMessage}
-use Rattle.engine.proofs.LawsDrop.{Taken, taken}
-use Rattle.engine.proofs.LawsOn.{Grown, blocks-below-hops}
+use Rattle.engine.specs.Answer.{sentOn, sentHome}
+use Rattle.engine.proofs.LawsDrop.{taken}
+use Rattle.engine.proofs.LawsOn.{blocks-below-hops}
 use Rattle.yard.specs.Yard.{sheetAt}
 use Rattle.yard.specs.Walk.{toGroup, nobodyThere, unused, Visit, sentAt, endOf, nextOf, Walk, walkBy, walkFrom}
 use Rattle.yard.proofs.Turns.{Accepts, blockFor, Onward, Ending, full, home, group, nobody, goes-on, stops, next-is, next-accepts, falls, walk-ends, walk-on}

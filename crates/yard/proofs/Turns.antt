@@ -1,8 +1,8 @@
 -- Laws of one turn of the walk: it ends here, or it goes on to the router that holds the destination, which does not drop what
 -- arrives, and the hops not yet used are one fewer.
 use Prim.Native.Nat.{ℕ, suc, _+_, _-_, _≤_, _<_}
-use mathlib.Core.Bool.{Bool, true, false}
-use mathlib.Core.List.{List, [], _∷_}
+use mathlib.Core.Bool.{true, false}
+use mathlib.Core.List.{List}
 use mathlib.Core.Logic.{_⊎_, inl, inr, ⊎-elim}
 use mathlib.Core.Path.{_≡_, refl, sym, ap, _∙_}
 use native.Mathlib.Omega.{arith}
@@ -15,8 +15,7 @@ use Rattle.recent.specs.Entries.{empty}
 use Rattle.response.specs.declared.Block.{Block}
 use Rattle.response.specs.Fill.{blockOf}
 use Rattle.message.specs.Format.{most, request, reply, standardSize}
-use Rattle.message.specs.Header.{headerOf}
-use Rattle.drops.specs.Arrival.{Arrival, arrival}
+use Rattle.drops.specs.Arrival.{arrival}
 use Rattle.drops.specs.Drop.{noteSize, dropOf}
 use Rattle.engine.specs.View.{viewOf}
 use Rattle.engine.specs.Answer.{Sent, sentOn, sentHome, fullMessage, longerMessage, sentBy}
@@ -26,8 +25,8 @@ use Rattle.engine.proofs.LawsOn.{Grown, sent-on-grows, no-later-drop}
 use Rattle.yard.specs.declared.Holder.{Holder}
 use Rattle.yard.specs.declared.Holder.the-variants.{Held, Nobody}
 use Rattle.yard.specs.Yard.{routersIn, sheetAt, holderIn}
-use Rattle.yard.specs.Walk.{toGroup, nobodyThere, nearTtl, unused, Visit, visit, sentFor, sentAt, endBy, endOf, nextBy, nextOf, ends, entered, walkBy, walkFrom}
-use Rattle.yard.proofs.Sheets.{Holds, holder-found}
+use Rattle.yard.specs.Walk.{toGroup, nobodyThere, nearTtl, unused, Visit, visit, sentAt, endBy, endOf, nextOf, ends, entered, walkBy, walkFrom}
+use Rattle.yard.proofs.Sheets.{holder-found}
 use Rattle.yard.proofs.Calls.{sent-dropped, sent-taken}
 
 -- the router of a visit drops nothing

@@ -1,12 +1,11 @@
 -- What the private functions of the walk ask for and answer.
-use Prim.Native.Nat.{ℕ, _+_, _*_, _≤_, _<_}
+use Prim.Native.Nat.{ℕ, _*_, _≤_, _<_}
 use mathlib.Core.Bool.{Bool, true}
 use mathlib.Core.List.{List}
 use mathlib.Core.Path.{_≡_}
 use lib.ListN.{length, getD}
 use Rattle.wire.specs.Parts.{splice}
 use Rattle.sheet.specs.Sheet.{layoutOf}
-use Rattle.message.specs.Format.{most}
 use Rattle.message.specs.Blocks.{standardCount}
 use Rattle.drops.specs.Arrival.{arrival}
 use Rattle.engine.specs.Answer.{Sent, sentOn}
@@ -14,7 +13,7 @@ use Rattle.yard.specs.declared.Call.{Call}
 use Rattle.yard.specs.declared.Hop.{Hop}
 use Rattle.yard.specs.declared.Walked.{Walked}
 use Rattle.yard.specs.Yard.{sheetSize, mostRouters, routersIn, sheetAt, yardOk}
-use Rattle.yard.specs.Walk.{Visit, visit, endOf, nextOf, nearTtl}
+use Rattle.yard.specs.Walk.{visit, endOf, nextOf, nearTtl}
 
 -- how many interfaces each of n routers has
 pub record Counted (yard counts : List ℕ) (n : ℕ) : Type 0 where

@@ -1,7 +1,7 @@
 -- The walk (document 01, "Walk"): the routers that a trace enters, in order, with what each receives; its end; and the last
 -- message sent.
 use Prim.Native.Nat.{ℕ, zero, suc, _-_}
-use mathlib.Core.Bool.{Bool, not, cond}
+use mathlib.Core.Bool.{not, cond}
 use mathlib.Core.List.{List, [], _∷_}
 use mathlib.Core.Path.{_≡_}
 use lib.Dec.{leb, ltb, eqb}
@@ -10,7 +10,6 @@ use Rattle.wire.specs.Numbers.{byteAt}
 use Rattle.wire.specs.Parts.{splice}
 use Rattle.wire.specs.Addresses.{multicast}
 use Rattle.recent.specs.Entries.{empty}
-use Rattle.response.specs.declared.Note.{Note}
 use Rattle.message.specs.Format.{most, request}
 use Rattle.message.specs.Header.{headerOf}
 use Rattle.message.specs.Blocks.{standardCount}

@@ -147,6 +147,19 @@ fn ask(
     }
 }
 
+// What was sent goes no further.
+fn ended(end: u32, c: Call) -> Hop
+    ensures { λ r. ⌜ r ≡ record { end = end; length = c .length; to = c .to; router = 0; interface = 0 } ⌝ }
+{
+    Hop {
+        end,
+        length: c.length,
+        to: c.to,
+        router: 0,
+        interface: 0,
+    }
+}
+
 // The engine's call at a router, and what becomes of what it sent: 102 sent to a group, 103 nobody holds the address.
 fn enter(
     yard: &[u8],
@@ -176,42 +189,23 @@ fn enter(
         ttl,
         sent,
     );
-    let length = c.length;
     let to = c.to;
     if c.answer != 100 {
-        return Hop {
-            end: c.answer,
-            length,
-            to,
-            router: 0,
-            interface: 0,
-        };
+        return ended(c.answer, c);
     }
     if wire::multicast(to) {
-        return Hop {
-            end: 102,
-            length,
-            to,
-            router: 0,
-            interface: 0,
-        };
+        return ended(102, c);
     }
     let holder = holder_in(yard, counts, yard.len() / 1024, to);
     match holder {
         Holder::Held(i, k) => Hop {
             end: 100,
-            length,
+            length: c.length,
             to,
             router: i,
             interface: k as u32,
         },
-        Holder::Nobody => Hop {
-            end: 103,
-            length,
-            to,
-            router: 0,
-            interface: 0,
-        },
+        Holder::Nobody => ended(103, c),
     }
 }
 

@@ -1,3 +1,5 @@
+-- `go`: the walk calls itself for the next router. The measure is the hops not yet used, hops minus blocks of the message received:
+-- what is sent on has one block more.
 use borrow.Author.Needs.{needs}
 use Rattle.yard.specs.Walk.{unused}
 use Rattle.yard.proofs.Rows.{message-within, message-measured, message-short, walk-over, unused-falls, ready-next, walk-goes-on, steps-fit}
@@ -25,55 +27,30 @@ go-below t = and 5 go-kinds.ps (falls 5 go-kinds.ps _<_ μ-go t) go.Pre
 abbrev calls : ℕ → go-lts.Claims
 calls t = (enter-reads.Asked, enter-reads.Learnt, finish-reads.Asked, finish-reads.Learnt, go-below t, go.Post)
 
--- src/lib.rt:256:9
-go-slice-aggregate-enter : (t : ℕ) → go-lts.Need-slice-aggregate-enter (calls t) (go-at t) go.Post
-go-slice-aggregate-enter t c = search needs
-
--- src/lib.rt:248:9
-go-enter-requires : (t : ℕ) → go-lts.Need-enter-requires (calls t) (go-at t) go.Post
-go-enter-requires t c κs = search needs
-
--- src/lib.rt:260:30
 go-array-share-prefix-sent : (t : ℕ) → go-lts.Need-array-share-prefix-sent (calls t) (go-at t) go.Post
 go-array-share-prefix-sent t c = search message-within
 
--- src/lib.rt:260:30
 go-slice-aggregate-finish : (t : ℕ) → go-lts.Need-slice-aggregate-finish (calls t) (go-at t) go.Post
 go-slice-aggregate-finish t c = search message-measured
 
--- src/lib.rt:260:9
 go-finish-requires : (t : ℕ) → go-lts.Need-finish-requires (calls t) (go-at t) go.Post
 go-finish-requires t c κs = (search message-short, search needs)
 
--- src/lib.rt:260:9
-go-same-length : (t : ℕ) → go-lts.Need-same-length (calls t) (go-at t) go.Post
-go-same-length t c = search needs
-
--- src/lib.rt:260:9
 go-returns : (t : ℕ) → go-lts.Need-returns (calls t) (go-at t) go.Post
 go-returns t c = search walk-over
 
--- src/lib.rt:266:9
 go-array-share-prefix-sent-2 : (t : ℕ) → go-lts.Need-array-share-prefix-sent-2 (calls t) (go-at t) go.Post
 go-array-share-prefix-sent-2 t c = search message-within
 
--- src/lib.rt:266:9
 go-slice-aggregate-go : (t : ℕ) → go-lts.Need-slice-aggregate-go (calls t) (go-at t) go.Post
 go-slice-aggregate-go t c = search message-measured
 
--- src/lib.rt:262:9
 go-go-requires : (t : ℕ) → go-lts.Need-go-requires (calls t) (go-at t) go.Post
 go-go-requires t c κs = (search unused-falls, (search ready-next, search needs))
 
--- src/lib.rt:274:16
 go-add-steps : (t : ℕ) → go-lts.Need-add-steps (calls t) (go-at t) go.Post
 go-add-steps t c = record { fits = search steps-fit }
 
--- src/lib.rt:231:1
-go-same-length-2 : (t : ℕ) → go-lts.Need-same-length-2 (calls t) (go-at t) go.Post
-go-same-length-2 t c = search needs
-
--- src/lib.rt:231:1
 go-returns-2 : (t : ℕ) → go-lts.Need-returns-2 (calls t) (go-at t) go.Post
 go-returns-2 t c = search walk-goes-on
 
@@ -81,16 +58,16 @@ pub +go-spec : {M : Type 1} → statement M
 +go-spec = close μ-go λ t. go-lts.spec (calls t)
     (go-at t)
     go.Post
-    (go-slice-aggregate-enter t)
-    (go-enter-requires t)
+    (λ c. search needs)
+    (λ c κs. search needs)
     (go-array-share-prefix-sent t)
     (go-slice-aggregate-finish t)
     (go-finish-requires t)
-    (go-same-length t)
+    (λ c. search needs)
     (go-returns t)
     (go-array-share-prefix-sent-2 t)
     (go-slice-aggregate-go t)
     (go-go-requires t)
     (go-add-steps t)
-    (go-same-length-2 t)
+    (λ c. search needs)
     (go-returns-2 t)
