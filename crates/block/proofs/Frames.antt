@@ -1,5 +1,5 @@
 -- The frame of a block by the plain sums of its words; and what a frame that is kept says.
-use Prim.Native.Nat.{ℕ, _+_, _*_, _/_, _%_, _-_, _≤_, _<_}
+use Prim.Native.Nat.{ℕ, _+_, _*_, _/_, _%_, _≤_, _<_}
 use mathlib.Core.Bool.{Bool, true, false, _&&_, _||_, and-false}
 use mathlib.Core.Path.{_≡_, refl, ap, _∙_}
 use mathlib.Core.List.{List}
@@ -12,7 +12,7 @@ use Rattle.wire.specs.Numbers.{byteAt, be16, be32}
 use Rattle.block.specs.Sum.{sumOk}
 use Rattle.block.specs.Block.{kindOf, usedIn, numberOf, entriesEach, unusedOf, zeros, filledOk, frameOk}
 use Rattle.block.specs.Words.{words}
-use Rattle.wire.proofs.Flags.{both-of}
+use Rattle.rows.proofs.Tests.{both-of}
 use Rattle.block.proofs.Sums.{sum-plain}
 use Rattle.block.proofs.Unused.{zeros-plain}
 

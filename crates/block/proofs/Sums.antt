@@ -1,5 +1,5 @@
 -- The plain sum of the 32-bit words, joined to the sum of RFC 1071: end-around carry takes multiples of 65535 away.
-use Prim.Native.Nat.{ℕ, zero, suc, _+_, _*_, _/_, _%_, _-_, _≤_, _<_}
+use Prim.Native.Nat.{ℕ, zero, suc, _+_, _*_, _/_, _%_, _≤_, _<_}
 use mathlib.Core.Bool.{_&&_}
 use mathlib.Core.Path.{_≡_, refl, ap, _∙_}
 use mathlib.Core.List.{List, _∷_}
@@ -12,7 +12,7 @@ use borrow.Author.Tests.{eqb-true, eq-eqb, ltb-true, lt-ltb}
 use Rattle.wire.specs.Numbers.{byteAt, be, be32}
 use Rattle.block.specs.Sum.{carried, sumFrom, sumOk}
 use Rattle.block.specs.Words.{words}
-use Rattle.wire.proofs.Flags.{same-flag, both-true, both-of}
+use Rattle.rows.proofs.Tests.{same-flag, both-true, both-of}
 
 -- the loop: one word more, and all of them
 pub words-more : (b : List ℕ) (sum from i x : ℕ) → sum + words b from ≡ words b i → x ≡ be32 b (4 * i) → sum + x + words b from ≡ words b (i + 1)

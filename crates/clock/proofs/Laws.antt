@@ -1,6 +1,6 @@
 -- What the clock keeps, for all readings whatever: the time issued never falls, it is at least the reading, and a lead
 -- shrinks at half rate.
-use Prim.Native.Nat.{ℕ, _+_, _*_, _-_, _/_, _≤_, _<_, min, max}
+use Prim.Native.Nat.{ℕ, _*_, _-_, _≤_, _<_}
 use mathlib.Core.Bool.{Bool, true, false, cond}
 use mathlib.Core.List.{List, [], _∷_}
 use mathlib.Core.Path.{_≡_, refl, sym, subst}
@@ -10,7 +10,7 @@ use borrow.Author.Tests.{ltb-true, ltb-false, le-ltb, ne-eqb}
 use Rattle.clock.specs.declared.Clock.{Clock}
 use Rattle.clock.specs.declared.Tick.{Tick}
 use Rattle.clock.specs.Clock.{last, clockOf, issued, refused, timeFor, startOf, advanceOf}
-use Rattle.clock.specs.Readings.{after, Issue, issues, Sound, Rising, NeverFall}
+use Rattle.clock.specs.Readings.{after, issues, Sound, Rising, NeverFall}
 
 -- what holds of each way out of a test holds of the whole
 cond-cases : {A : Type 0} (P : A → Type 0) (b : Bool) (x y : A) → (b ≡ true → P x) → (b ≡ false → P y) → P (cond b x y)

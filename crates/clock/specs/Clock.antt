@@ -1,6 +1,6 @@
 -- The clock: what starting it and each new reading give. Units are 1/65536 s since NTP era 0, from 0 to 2^48 - 1.
 use Prim.Native.Nat.{ℕ, _+_, _-_, _/_, _%_, min, max}
-use mathlib.Core.Bool.{Bool, cond}
+use mathlib.Core.Bool.{cond}
 use lib.Dec.{ltb}
 use Rattle.clock.specs.declared.Clock.{Clock}
 use Rattle.clock.specs.declared.Tick.{Tick}

@@ -11,7 +11,7 @@ use lib.ListN.{length, take, drop, set}
 use lib.Seq.{take-append-seam}
 use Rattle.wire.specs.Numbers.{byteAt}
 use Rattle.wire.specs.Parts.{part}
-use Rattle.wire.proofs.Flags.{decided}
+use Rattle.rows.proofs.Tests.{decided}
 use Rattle.wire.proofs.Laws.{splice-front}
 use Rattle.clock.specs.declared.Clock.{Clock}
 use Rattle.clock.specs.Readings.{Sound, Rising, NeverFall, after, issues}

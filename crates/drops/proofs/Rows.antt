@@ -1,14 +1,13 @@
 -- A law for each way out of a function: what its tests showed and what its callees answered, and the definition's answer.
-use Prim.Native.Nat.{ℕ, _+_, _≤_, _<_}
-use mathlib.Core.Bool.{Bool, true, false, not, cond, _&&_, _||_}
+use Prim.Native.Nat.{ℕ, _+_, _≤_}
+use mathlib.Core.Bool.{Bool, true, false, not, _&&_}
 use mathlib.Core.List.{List}
 use mathlib.Core.Path.{_≡_, refl, sym, ap, _∙_}
-use native.Mathlib.Omega.{arith}
-use lib.Dec.{ltb, leb, eqb}
+use lib.Dec.{ltb, eqb}
 use lib.ListN.{length}
-use borrow.Author.Tests.{eq-eqb, ne-eqb, eqb-true, not-false}
+use borrow.Author.Tests.{eq-eqb, ne-eqb, not-false}
 use Rattle.wire.specs.Addresses.{linkScoped}
-use Rattle.wire.proofs.First.{passed}
+use Rattle.rows.proofs.Tests.{passed}
 use Rattle.recent.specs.Layout.{wellFormed, Formed}
 use Rattle.recent.proofs.Laws.{formed}
 use Rattle.sheet.specs.declared.layout.Layout.{Layout}
@@ -25,10 +24,10 @@ use Rattle.message.specs.declared.Checked.{Checked}
 use Rattle.message.specs.Header.{headerOf}
 use Rattle.message.specs.Blocks.{standardCount}
 use Rattle.message.specs.Check.{accepted, checkOf, numberOf, blocksSeen}
-use Rattle.message.proofs.Accept.{Accepted, check-number, check-accepts, accepts-as}
+use Rattle.message.proofs.Accept.{check-number, check-accepts, accepts-as}
 use Rattle.drops.specs.declared.Verdict.{Verdict}
-use Rattle.drops.specs.Arrival.{Arrival, arrival, isQuery, routeFor, lastHopFor}
-use Rattle.drops.specs.Drop.{isHeld, isFull, noteSize, orElse, lendingRow, deliveryRow, routeRow, dropOf}
+use Rattle.drops.specs.Arrival.{arrival, isQuery, routeFor, lastHopFor}
+use Rattle.drops.specs.Drop.{isHeld, noteSize, orElse, lendingRow, deliveryRow, routeRow, dropOf}
 use Rattle.drops.specs.Verdict.{dropped, taken, orDropped, routedOf, verdictOf}
 
 -- an interface holds the address, or none does

@@ -11,7 +11,7 @@ use lib.ListN.{length, take, set, length-set, length-append, List·getD-append}
 use lib.Seq.{take-at, drop-at, take-all, getD-append-add, getD-set-same, set-append-left}
 use Rattle.wire.specs.Numbers.{byteAt, be, bytes}
 use Rattle.wire.specs.Parts.{part}
-use Rattle.wire.proofs.First.{cond-cases}
+use Rattle.rows.proofs.Tests.{cond-cases}
 use Rattle.sheet.specs.Tables.{interfaceOf}
 use Rattle.route.specs.declared.Chosen.the-variants.{Nothing}
 use Rattle.response.specs.declared.View.{View}

@@ -1,13 +1,11 @@
 -- A law for each way out of a function: what its tests showed and what its callees answered, and the definition's answer.
-use Prim.Native.Nat.{ℕ, _+_, _≤_, _<_}
-use mathlib.Core.Bool.{Bool, true, false, cond}
+use Prim.Native.Nat.{ℕ, _+_, _<_}
+use mathlib.Core.Bool.{Bool, true, false}
 use mathlib.Core.List.{List}
-use mathlib.Core.Logic.{⊎-elim}
-use mathlib.Core.Path.{_≡_, refl, sym, ap, subst, _∙_}
-use native.Mathlib.Omega.{arith}
-use lib.Dec.{eqb, ltb}
-use lib.ListN.{length, length-set, set, length-append}
-use borrow.Author.Tests.{eq-eqb, ne-eqb, lt-ltb, le-ltb}
+use mathlib.Core.Path.{_≡_, refl, _∙_}
+use lib.Dec.{eqb}
+use lib.ListN.{length, length-set, set}
+use borrow.Author.Tests.{eq-eqb, ne-eqb}
 use Rattle.wire.specs.Parts.{splice}
 use Rattle.entry.specs.Route.{unknown}
 use Rattle.entry.specs.declared.interface.Interface.{Interface}
@@ -24,17 +22,14 @@ use Rattle.response.specs.declared.Note.{Note}
 use Rattle.response.specs.declared.Block.{Block}
 use Rattle.response.specs.View.{addressOf}
 use Rattle.response.specs.Fill.{upstreamOf, blockOf, endsTrace}
-use Rattle.response.specs.Bytes.{blockBytes, noteBytes}
-use Rattle.response.proofs.Laws.{block-length}
+use Rattle.response.specs.Bytes.{noteBytes}
 use Rattle.message.specs.declared.Header.{Header}
 use Rattle.message.specs.Header.{headerOf}
 use Rattle.message.specs.Blocks.{standardCount, lastStandard}
-use Rattle.drops.specs.Arrival.{isQuery}
 use Rattle.engine.specs.View.{incomingFor, RouteThere, viewWith}
-use Rattle.engine.specs.Answer.{Sent, noteHome, noteOn, home, on, fullMessage, longerMessage, longerAnswer}
+use Rattle.engine.specs.Answer.{noteHome, noteOn, home, on, fullMessage, longerMessage, longerAnswer}
 use Rattle.engine.specs.Step.{Written}
 use Rattle.engine.proofs.LawsSent.{longer-length}
-use Rattle.engine.specs.Ready.{Roomy, Full}
 
 -- the incoming interface, by the route chosen
 module _ (s : List ℕ) (chosen : Chosen) where

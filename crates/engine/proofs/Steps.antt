@@ -1,20 +1,14 @@
 -- From the verdict to the answer: what an accepted message brings, and the outcome of each way through the step.
 use Prim.Native.Nat.{ℕ, _+_, _≤_, _<_}
-use mathlib.Core.Bool.{Bool, true, false, not, cond, _&&_, _||_}
 use mathlib.Core.List.{List}
 use mathlib.Core.Logic.{⊎-elim}
 use mathlib.Core.Path.{_≡_, refl, sym, ap, _∙_}
 use native.Mathlib.Omega.{arith}
-use lib.Dec.{eqb, ltb, leb}
+use lib.Dec.{eqb}
 use lib.ListN.{length}
-use borrow.Author.Tests.{eq-eqb, ne-eqb, lt-ltb, le-ltb, eqb-true, eqb-false, ltb-false, leb-false, not-false}
-use Rattle.wire.specs.Parts.{splice}
-use Rattle.wire.proofs.First.{passed}
-use Rattle.wire.proofs.Flags.{decided}
-use Rattle.entry.specs.Route.{unknown}
+use borrow.Author.Tests.{eq-eqb, ne-eqb, lt-ltb, le-ltb, eqb-true}
+use Rattle.rows.proofs.Tests.{decided}
 use Rattle.entry.specs.declared.interface.Interface.{Interface}
-use Rattle.entry.specs.declared.route.Route.{Route}
-use Rattle.recent.specs.Layout.{wellFormed, Formed}
 use Rattle.recent.proofs.Laws.{formed}
 use Rattle.sheet.specs.Sheet.{layoutOf}
 use Rattle.sheet.specs.Tables.{interfaceOf}
@@ -28,17 +22,17 @@ use Rattle.message.specs.declared.Header.{Header}
 use Rattle.message.specs.Format.{most}
 use Rattle.message.specs.Header.{headerOf}
 use Rattle.message.specs.Blocks.{standardCount, lastStandard}
-use Rattle.message.specs.Check.{numberOf, blocksSeen}
-use Rattle.message.proofs.Accept.{Accepted, none-applies, full-has-standard}
+use Rattle.message.specs.Check.{blocksSeen}
+use Rattle.message.proofs.Accept.{full-has-standard}
 use Rattle.message.proofs.Standards.{last-high, standards-fit}
 use Rattle.drops.specs.declared.Verdict.{Verdict}
-use Rattle.drops.specs.Arrival.{Arrival, arrival, routeFor, lastHopFor}
-use Rattle.drops.specs.Drop.{isFull, noteSize, orElse, lendingRow, deliveryRow, routeRow, dropOf}
+use Rattle.drops.specs.Arrival.{Arrival, arrival, routeFor}
+use Rattle.drops.specs.Drop.{dropOf}
 use Rattle.drops.specs.Verdict.{dropped, taken, verdictOf}
-use Rattle.engine.specs.View.{RouteThere, viewWith, viewOf}
-use Rattle.engine.specs.Answer.{Sent, home, fullMessage, longerAnswer, sentBy}
-use Rattle.engine.specs.Step.{Outcome, outcome, recentAfter, Written, accepted, stepOf, StepMeets}
-use Rattle.engine.proofs.LawsDrop.{Taken, taken as taken-rows}
+use Rattle.engine.specs.View.{RouteThere, viewWith}
+use Rattle.engine.specs.Answer.{home, fullMessage, longerAnswer, sentBy}
+use Rattle.engine.specs.Step.{outcome, recentAfter, Written, accepted, stepOf, StepMeets}
+use Rattle.engine.proofs.LawsDrop.{taken as taken-rows}
 use Rattle.engine.specs.Ready.{Roomy, Full, Ready, answered}
 
 -- the outcome of what is written, as a message without room and as one with room

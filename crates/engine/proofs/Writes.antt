@@ -1,19 +1,17 @@
 -- What is written into the lent bytes, step by step, is what the definitions say.
 use Prim.Native.Nat.{ℕ, _+_, _≤_, _<_}
-use mathlib.Core.List.{List, [], _∷_, _++_}
-use mathlib.Core.Path.{_≡_, refl, sym, ap, _∙_}
+use mathlib.Core.List.{List}
+use mathlib.Core.Path.{_≡_, ap, _∙_}
 use native.Mathlib.Omega.{arith}
-use native.Mathlib.Nat.{zero-add}
-use lib.ListN.{length, take, drop, set, length-set, length-append}
+use lib.ListN.{length, set, length-set}
 use lib.Seq.{set-append-left}
 use borrow.Author.Tests.{eq-eqb, ne-eqb}
 use Rattle.wire.specs.Parts.{splice}
-use Rattle.wire.proofs.Laws.{length-splice, splice-front, splice-join}
+use Rattle.wire.proofs.Laws.{splice-front, splice-join}
 use Rattle.recent.specs.Entries.{enteredIn}
 use Rattle.response.specs.declared.Block.{Block}
 use Rattle.response.specs.declared.Note.{Note}
 use Rattle.response.specs.Bytes.{blockBytes, noteBytes}
-use Rattle.response.proofs.Laws.{block-length, note-length}
 use Rattle.message.specs.declared.Header.{Header}
 use Rattle.engine.specs.Answer.{longerMessage}
 use Rattle.engine.specs.Step.{recentAfter}

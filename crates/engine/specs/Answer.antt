@@ -1,6 +1,6 @@
 -- What a router sends when it has accepted a message (document 01, "One router's step"): the Request on, or the Reply home.
 use Prim.Native.Nat.{ℕ, _+_}
-use mathlib.Core.Bool.{Bool, cond}
+use mathlib.Core.Bool.{cond}
 use mathlib.Core.List.{List, _++_}
 use lib.ListN.{length, set}
 use Rattle.sheet.specs.Tables.{interfaceOf}

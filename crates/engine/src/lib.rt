@@ -13,7 +13,7 @@ ghost use lib.ListN.{length, set};
 ghost use Rattle.wire.specs.Parts.{splice};
 ghost use Rattle.recent.specs.Layout.{Formed};
 ghost use Rattle.sheet.specs.Sheet.{layoutOf};
-ghost use Rattle.response.specs.Bytes.{blockBytes, noteBytes};
+ghost use Rattle.response.specs.Bytes.{noteBytes};
 ghost use Rattle.drops.specs.Arrival.{arrival};
 ghost use Rattle.engine.specs.View.{incomingFor, RouteThere, viewWith};
 ghost use Rattle.engine.specs.Answer.{noteHome, noteOn, home, fullMessage, longerMessage, longerAnswer};

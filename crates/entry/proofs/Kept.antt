@@ -1,18 +1,17 @@
 -- What an interface and a route that keep their rules say of their fields, for the layers above.
-use Prim.Native.Nat.{ℕ, _≤_, _<_, _^_}
-use mathlib.Core.Bool.{Bool, true, false, not, _&&_, _||_}
+use Prim.Native.Nat.{ℕ, _≤_, _<_}
+use mathlib.Core.Bool.{true, not, _||_}
 use mathlib.Core.Logic.{_⊎_, inl, inr, ⊎-elim}
-use mathlib.Core.Path.{_≡_, refl}
-use native.Mathlib.Omega.{arith}
-use lib.Dec.{leb, ltb, eqb}
+use mathlib.Core.Path.{_≡_}
+use lib.Dec.{ltb, eqb}
 use borrow.Author.Tests.{leb-true, ltb-true, eqb-true, eqb-false, not-true}
-use Rattle.wire.specs.Addresses.{unicast, multicast, allOnes}
-use Rattle.wire.proofs.Flags.{both-of, one-of, parts}
+use Rattle.wire.specs.Addresses.{unicast, allOnes}
+use Rattle.rows.proofs.Tests.{both-of, one-of, parts}
 use Rattle.entry.specs.declared.interface.Interface.{Interface}
 use Rattle.entry.specs.declared.route.Route.{Route}
 use Rattle.entry.specs.Prefix.{zeroPast}
 use Rattle.entry.specs.Interface.{interfaceOk}
-use Rattle.entry.specs.Route.{groupOnly, unknown, kindOk, lengthOk, flagsOk, groupOk, incomingOk, upstreamOk, mapOk, routeOk}
+use Rattle.entry.specs.Route.{groupOnly, unknown, kindOk, lengthOk, groupOk, incomingOk, upstreamOk, mapOk, routeOk}
 
 pub record InterfaceKept (i : Interface) : Type 0 where
   pub address : unicast (i .address) ≡ true

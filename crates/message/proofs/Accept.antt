@@ -2,7 +2,7 @@
 -- and that a Request has a type 4 block.
 use Prim.Native.Nat.{ℕ, zero, suc, _+_, _≤_, _<_}
 use mathlib.Core.Path.{_≡_, refl, sym, ap, _∙_}
-use mathlib.Core.Bool.{Bool, true, false, not, cond, _||_}
+use mathlib.Core.Bool.{Bool, true, false, not, cond}
 use mathlib.Core.List.{List, [], _∷_}
 use mathlib.Core.Logic.{_⊎_, inl, inr, ⊎-elim}
 use native.Mathlib.Omega.{arith}
@@ -10,14 +10,13 @@ use borrow.Author.Tests.{le-ltb, eq-eqb, ne-eqb, ltb-false, eqb-true, eqb-false,
 use lib.Dec.{ltb, eqb, lit≤}
 use lib.ListN.{length}
 use Rattle.wire.specs.Addresses.{unicast}
-use Rattle.wire.proofs.First.{passed}
+use Rattle.rows.proofs.Tests.{passed, neither-of, decided, both-of, one-of}
 use Rattle.message.specs.declared.Header.{Header}
 use Rattle.message.specs.declared.Checked.{Checked}
 use Rattle.message.specs.Format.{headerSize, most, query, request, standardSize}
 use Rattle.message.specs.Header.{headerOf, queryOrRequest, rightLength, rightGroup, rightSource, namesNothing, rightClient}
 use Rattle.message.specs.Blocks.{Block, blocksOf, standardPlaces, standards, standardCount, lastStandard, fillsMessage, standardFirst, requestForm, rightForm}
 use Rattle.message.specs.Check.{wrongSize, firstRow, numberOf, blocksSeen, refused, accepted, checkOf}
-use Rattle.wire.proofs.Flags.{neither-of, decided, both-of, one-of}
 use Rattle.message.proofs.Turns.{standard-more}
 use Rattle.message.proofs.Append.{query-alone, request-formed}
 

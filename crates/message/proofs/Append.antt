@@ -16,7 +16,7 @@ use Rattle.wire.proofs.Laws.{be-first}
 use Rattle.message.specs.Format.{headerSize, query, standard, standardSize}
 use Rattle.message.specs.Header.{headerOf}
 use Rattle.message.specs.Blocks.{Block, begins, rightSize, fitsIn, blocksFrom, blocksOf, totalSize, standardPlaces, lastOr, standards, standardCount, standardAt, lastStandard, blocksEnd, standardFirst, fillsMessage, requestForm, rightForm, StandardBlock}
-use Rattle.wire.proofs.Flags.{decided, both-of}
+use Rattle.rows.proofs.Tests.{decided, both-of}
 use Rattle.message.proofs.Cut.{begun, too-short, no-blocks, block-first, by-blocks}
 use Rattle.message.proofs.Turns.{standard-more, standard-same}
 use Rattle.message.proofs.Fields.{same-header}

@@ -1,15 +1,15 @@
 -- Laws of cutting a message into blocks: the list of blocks by its first, and induction over it.
 use Prim.Native.Nat.{ℕ, zero, suc, _+_, _-_, _≤_, _<_}
 use mathlib.Core.Path.{_≡_, refl, sym, ap, _∙_}
-use mathlib.Core.Bool.{Bool, true, false, _&&_, _||_}
+use mathlib.Core.Bool.{true, false, _&&_}
 use mathlib.Core.List.{List, [], _∷_}
-use mathlib.Core.Logic.{_⊎_, inl, inr, ⊎-elim}
+use mathlib.Core.Logic.{⊎-elim}
 use native.Mathlib.Omega.{arith}
 use borrow.Author.Tests.{leb-true, eqb-true}
 use lib.Dec.{leb, eqb}
 use lib.ListN.{length, drop, length-drop}
 use Rattle.wire.specs.Numbers.{byteAt, be16}
-use Rattle.wire.proofs.Flags.{decided, both-of, one-of}
+use Rattle.rows.proofs.Tests.{decided, both-of, one-of}
 use Rattle.message.specs.Format.{standard, augmented, standardSize, augmentedLeast}
 use Rattle.message.specs.Blocks.{Block, blockAt, begins, rightSize, fitsIn, blocksBy, blocksFrom}
 

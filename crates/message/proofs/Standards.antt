@@ -14,7 +14,7 @@ use Rattle.wire.specs.Parts.{part}
 use Rattle.wire.proofs.Laws.{be-part}
 use Rattle.message.specs.Format.{headerSize, standard, standardSize}
 use Rattle.message.specs.Blocks.{Block, blockAt, begins, blocksFrom, blocksOf, totalSize, standardPlaces, lastOr, standards, standardCount, standardAt, lastStandard, blocksEnd, StandardBlock}
-use Rattle.wire.proofs.Flags.{decided}
+use Rattle.rows.proofs.Tests.{decided}
 use Rattle.message.proofs.Cut.{begun, no-blocks, block-first, by-blocks}
 use Rattle.message.proofs.Turns.{standard-more, standard-same}
 

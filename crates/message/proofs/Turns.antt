@@ -1,7 +1,7 @@
 -- What each turn of the walk over the blocks shows: the answer for the whole message is what was found so far, joined with
 -- what the blocks from here on give.
 use Prim.Native.Nat.{ℕ, suc, _+_, _-_, _≤_, _<_}
-use mathlib.Core.Path.{_≡_, sym, ap, _∙_}
+use mathlib.Core.Path.{_≡_, sym, _∙_}
 use mathlib.Core.Bool.{Bool, true, false, not, cond}
 use mathlib.Core.List.{List, _∷_}
 use mathlib.Core.Logic.{⊎-elim}
@@ -11,14 +11,13 @@ use borrow.Author.Tests.{not-true, not-false, leb-true}
 use lib.Dec.{eqb}
 use lib.ListN.{length, drop, length-drop}
 use lib.Seq.{getD-drop, drop-drop}
-use Rattle.wire.specs.Numbers.{byteAt, be, be16}
-use Rattle.wire.proofs.First.{cond-cases}
-use Rattle.wire.proofs.Laws.{be-drop, be-same}
+use Rattle.wire.specs.Numbers.{byteAt, be16}
+use Rattle.rows.proofs.Tests.{cond-cases, decided, both-of}
+use Rattle.wire.proofs.Laws.{be-drop}
 use Rattle.message.specs.declared.Blocks.{Blocks}
 use Rattle.message.specs.Format.{headerSize, standard, augmentedLeast}
 use Rattle.message.specs.Blocks.{Block, blockAt, begins, rightSize, fitsIn, blocksFrom, blocksOf, totalSize, standardPlaces, lastOr, standards, blocksEnd}
 use Rattle.message.specs.Check.{blocksSeen}
-use Rattle.wire.proofs.Flags.{decided, both-of}
 use Rattle.message.proofs.Cut.{size-right, too-short, no-blocks, block-first}
 
 -- what was found up to a place, joined with the blocks from there on

@@ -2,4 +2,5 @@
 pub mod Format
 pub mod Header
 pub mod Blocks
+pub mod Room
 pub mod Check

@@ -2,7 +2,7 @@
 -- in it; the empty list is well-formed and holds nothing.
 use Prim.Native.Nat.{ℕ, zero, suc, _+_, _*_, _^_, _≤_, _<_}
 use mathlib.Core.Path.{_≡_, refl, sym, ap, _∙_}
-use mathlib.Core.Bool.{Bool, true, false, _&&_, _||_, or-true}
+use mathlib.Core.Bool.{true, false, _||_, or-true}
 use mathlib.Core.List.{List, [], _∷_, _++_}
 use mathlib.Core.Logic.{_⊎_, inl, inr, ⊎-elim}
 use native.Mathlib.Omega.{arith}
@@ -13,7 +13,7 @@ use lib.ListN.{length, drop, length-append, drop-of-length-le}
 use lib.Seq.{drop-drop}
 use Rattle.wire.specs.Numbers.{byteAt, be, bytes32, bytes16}
 use Rattle.wire.specs.Parts.{splice}
-use Rattle.wire.proofs.Flags.{both-of, one-of}
+use Rattle.rows.proofs.Tests.{both-of, one-of}
 use Rattle.wire.proofs.Laws.{length-bytes, length-splice, byte-before, byte-after, be-after, be-within, be-first, be-second, be-bytes, drop-splice, splice-front}
 use Rattle.recent.specs.Layout.{entrySize, entryCount, listSize, used, next, entryPlace, allZero, wellFormed, Formed}
 use Rattle.recent.specs.Entries.{entryAt, firstEntries, isOf, someIsOf, seenIn, grown, movedOn, enteredIn, empty}

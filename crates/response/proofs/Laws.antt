@@ -3,7 +3,7 @@ use Prim.Native.Nat.{ℕ}
 use mathlib.Core.Bool.{Bool, true, false, cond, _||_, or-true}
 use mathlib.Core.List.{List, [], _∷_, _++_}
 use mathlib.Core.Logic.{_⊎_, inl, inr}
-use mathlib.Core.Path.{_≡_, refl, sym, ap, _∙_}
+use mathlib.Core.Path.{_≡_, refl, ap}
 use borrow.Author.Tests.{eq-eqb}
 use lib.Dec.{eqb}
 use lib.ListN.{length}
@@ -15,7 +15,7 @@ use Rattle.response.specs.declared.View.{View}
 use Rattle.response.specs.declared.Tests.{Tests}
 use Rattle.response.specs.declared.Block.{Block}
 use Rattle.response.specs.declared.Note.{Note}
-use Rattle.response.specs.Code.{wrongLastHopCode, reachedRp, noRoute, adminProhib, noMulticast, rpfIf, wrongIf, scopedCode, pruneSentCode, pruneRcvd, notForwarding, wrongLastHop, testsFor, testsOf, codeOf}
+use Rattle.response.specs.Code.{wrongLastHopCode, reachedRp, noRoute, adminProhib, noMulticast, rpfIf, wrongIf, scopedCode, pruneSentCode, pruneRcvd, notForwarding, wrongLastHop, testsOf, codeOf}
 use Rattle.response.specs.Fill.{endsFor, endsTrace}
 use Rattle.response.specs.Bytes.{blockBytes, noteBytes}
 

@@ -1,20 +1,19 @@
 -- A law for each way out of a function: what its tests showed and what its callees answered, and the definition's answer.
 use Prim.Native.Nat.{ℕ, _+_, _≤_, _<_}
-use mathlib.Core.Bool.{Bool, true, false, not, _&&_, _||_, cond}
+use mathlib.Core.Bool.{Bool, true, false, _||_, cond}
 use mathlib.Core.Path.{_≡_, refl, sym, ap, subst, _∙_}
 use native.Mathlib.Omega.{arith}
-use lib.Dec.{ltb, eqb}
-use Rattle.wire.proofs.First.{cond-cases}
+use lib.Dec.{eqb}
+use Rattle.rows.proofs.Tests.{cond-cases}
 use Rattle.entry.specs.Route.{isRp, groupOnly}
 use Rattle.entry.specs.declared.route.Route.{Route}
 use Rattle.route.specs.declared.Chosen.{Chosen}
 use Rattle.route.specs.declared.Chosen.the-variants.{Found, Nothing}
 use Rattle.response.specs.declared.View.{View}
-use Rattle.response.specs.declared.Incoming.{Incoming}
 use Rattle.response.specs.declared.Tests.{Tests}
 use Rattle.response.specs.declared.Filled.{Filled}
 use Rattle.response.specs.Code.{testsFor, testsOf}
-use Rattle.response.specs.Fill.{sOf, maskOf, filledOf, unfilled, fillFor, RouteFits, endsFor, endsTrace}
+use Rattle.response.specs.Fill.{sOf, maskOf, filledOf, unfilled, fillFor, RouteFits, endsTrace}
 
 module _ (v : View) (r : Route) (found : v .chosen ≡ Found r) where
   pub tests-found : (t : Tests) → t ≡ testsFor v (Found r) → t ≡ testsOf v

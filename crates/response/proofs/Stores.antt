@@ -1,7 +1,7 @@
 -- A block, and an answer record, written field by field into an array of zeros.
 use Prim.Native.Nat.{ℕ}
 use mathlib.Core.List.{List}
-use mathlib.Core.Path.{_≡_, refl}
+use mathlib.Core.Path.{_≡_}
 use lib.ListN.{set, replicate}
 use Rattle.wire.specs.Numbers.{bytes, bytes16, bytes32, bytes64}
 use Rattle.wire.specs.Parts.{splice}

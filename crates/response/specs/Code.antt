@@ -1,5 +1,5 @@
 -- The forwarding code: the results of the eleven tests, and the first of them that holds.
-use Prim.Native.Nat.{ℕ, _/_, _%_, _^_}
+use Prim.Native.Nat.{ℕ}
 use mathlib.Core.Bool.{Bool, true, false, not, _&&_, _||_, cond}
 use lib.Dec.{eqb}
 use Rattle.wire.specs.Addresses.{firstOctet}

@@ -1,6 +1,6 @@
 -- What the block is filled with, and what ends a trace. Neither looks at the other: the code decides nothing.
 use Prim.Native.Nat.{ℕ, _+_, _≤_}
-use mathlib.Core.Bool.{Bool, true, false, not, _&&_, _||_, cond}
+use mathlib.Core.Bool.{Bool, true, _&&_, _||_, cond}
 use lib.Dec.{ltb, eqb}
 use Rattle.wire.specs.Addresses.{allOnes}
 use Rattle.entry.specs.Route.{sourceAndGroup, groupOnly, sourceOnly, isRp}

@@ -4,14 +4,14 @@ use entry::Interface;
 use entry::Route;
 use route::Chosen;
 ghost use mathlib.Core.Path.{_≡_};
-ghost use mathlib.Core.Bool.{cond, not, _&&_, _||_};
+ghost use mathlib.Core.Bool.{cond};
 ghost use Prim.Native.Nat.{_+_, _≤_, _<_};
 ghost use Rattle.entry.specs.Interface.{isMulticast, isBoundary};
-ghost use Rattle.entry.specs.Route.{isRp, pruneSent, inMap};
+ghost use Rattle.entry.specs.Route.{isRp, inMap};
 ghost use Rattle.route.specs.declared.Chosen.the-variants.{Found};
 ghost use Rattle.response.specs.View.{boundaryOn, addressOf, inputOf};
 ghost use Rattle.response.specs.Code.{scoped, testsFor, testsOf, codeOf};
-ghost use Rattle.response.specs.Fill.{upstreamOf, totalOf, maskOf, sOf, filledOf, unfilled, RouteFits, fillFor, blockOf, endsFor, endsTrace};
+ghost use Rattle.response.specs.Fill.{upstreamOf, totalOf, maskOf, sOf, filledOf, unfilled, RouteFits, fillFor, blockOf, endsTrace};
 ghost use Rattle.response.specs.Bytes.{blockBytes, noteBytes};
 
 // The incoming interface of the route chosen, where it is known.

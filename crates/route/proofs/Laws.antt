@@ -1,12 +1,11 @@
 -- What is known of the route that is chosen: it is one of the sheet's, and keeps the rules.
 use Prim.Native.Nat.{ℕ, _<_}
-use mathlib.Core.Bool.{Bool, cond}
 use mathlib.Core.List.{List}
-use mathlib.Core.Path.{_≡_, refl, sym, ap, _∙_}
+use mathlib.Core.Path.{_≡_, refl, sym, _∙_}
 use native.Mathlib.Omega.{arith}
 use lib.Dec.{eqb}
 use borrow.Author.Tests.{eqb-false}
-use Rattle.wire.proofs.First.{cond-cases}
+use Rattle.rows.proofs.Tests.{cond-cases}
 use Rattle.entry.specs.declared.route.Route.{Route}
 use Rattle.entry.proofs.Kept.{RouteKept, route-kept}
 use Rattle.sheet.specs.Sheet.{layoutOf}
@@ -14,7 +13,6 @@ use Rattle.sheet.specs.Tables.{routeOf, routesOf}
 use Rattle.sheet.proofs.Entries.{route-keeps}
 use Rattle.route.specs.declared.Chosen.{Chosen}
 use Rattle.route.specs.declared.Chosen.the-variants.{Found, Nothing}
-use Rattle.route.specs.declared.Best.{Best}
 use Rattle.route.specs.Choice.{whichRoute}
 use Rattle.route.specs.Rank.{ranksIn, bestOf}
 use Rattle.route.proofs.Turns.{by-rank, chosen-there}

@@ -2,17 +2,17 @@
 use Prim.Native.Nat.{ℕ, zero, suc, _+_, _-_, _%_, _≤_, _<_}
 use mathlib.Core.Bool.{Bool, true, false, cond}
 use mathlib.Core.List.{List, [], _∷_, _++_}
-use mathlib.Core.Path.{_≡_, refl, sym, ap, _∙_}
+use mathlib.Core.Path.{_≡_, refl, ap, _∙_}
 use native.Mathlib.Omega.{arith}
 use native.Mathlib.Nat.{zero-add}
 use native.Mathlib.Numerals.{add-one}
 use lib.Dec.{eqb}
 use borrow.Author.Tests.{eq-eqb, ne-eqb, eqb-true}
-use Rattle.wire.proofs.Flags.{both-second, parts}
+use Rattle.rows.proofs.Tests.{parts}
 use Rattle.entry.specs.Route.{groupOnly}
 use Rattle.entry.specs.declared.interface.Interface.{Interface}
 use Rattle.entry.specs.declared.route.Route.{Route}
-use Rattle.entry.proofs.Kept.{InterfaceKept, interface-kept, RouteKept, route-kept}
+use Rattle.entry.proofs.Kept.{interface-kept, route-kept}
 use Rattle.sheet.specs.declared.layout.Layout.{Layout}
 use Rattle.sheet.specs.Every.{listed}
 use Rattle.sheet.specs.Sheet.{layoutOf}

@@ -1,7 +1,7 @@
 -- How one pass finds the route: every route has a rank for a source and a group, and the first of the highest rank is the
 -- one. Ranks are 1 to 33 for kind 3, 34 for kind 2, 36 to 67 for kind 1, by length; 0 serves not at all.
 use Prim.Native.Nat.{ℕ, zero, suc, _+_}
-use mathlib.Core.Bool.{Bool, true, false, not, _&&_, _||_, cond}
+use mathlib.Core.Bool.{Bool, not, _&&_, _||_, cond}
 use mathlib.Core.List.{List}
 use lib.Dec.{ltb}
 use Rattle.wire.specs.Addresses.{allOnes}

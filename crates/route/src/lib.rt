@@ -5,8 +5,6 @@ use sheet::Layout;
 ghost use mathlib.Core.Path.{_≡_};
 ghost use Prim.Native.Nat.{_≤_, _<_};
 ghost use lib.ListN.{length};
-ghost use Rattle.entry.specs.Interface.{isMulticast};
-ghost use Rattle.entry.specs.Route.{isRp, inMap};
 ghost use Rattle.sheet.specs.Sheet.{layoutOf};
 ghost use Rattle.sheet.specs.Tables.{interfaceOf, routesOf};
 ghost use Rattle.route.specs.Choice.{whichRoute};

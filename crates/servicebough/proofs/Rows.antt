@@ -1,10 +1,10 @@
 -- The ways out of handing over what a reading or a walk gave, over plain values.
-use Prim.Native.Nat.{ℕ, _+_, _≤_, _<_}
+use Prim.Native.Nat.{ℕ, _≤_, _<_}
 use mathlib.Core.Path.{_≡_}
 use mathlib.Core.List.{List}
 use native.Mathlib.Omega.{arith}
 use lib.ListN.{length}
-use borrow.Author.Tests.{eq-eqb, ne-eqb, lt-ltb, le-ltb}
+use borrow.Author.Tests.{ne-eqb, lt-ltb, le-ltb}
 use Rattle.wire.specs.Numbers.{bytes32, bytes64}
 use Rattle.wire.specs.Parts.{splice}
 use Rattle.clock.specs.declared.Tick.{Tick}

@@ -1,8 +1,7 @@
 -- The walk as C calls it: its end is the number, and end, steps, blocks and length go into 16 lent bytes where a message was sent.
 use Prim.Native.Nat.{ℕ}
-use mathlib.Core.Bool.{Bool, cond}
+use mathlib.Core.Bool.{cond}
 use mathlib.Core.List.{List, _++_}
-use mathlib.Core.Path.{_≡_}
 use lib.Dec.{ltb}
 use lib.ListN.{length}
 use Rattle.wire.specs.Numbers.{bytes32}

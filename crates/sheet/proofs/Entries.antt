@@ -8,7 +8,7 @@ use native.Mathlib.Omega.{arith}
 use lib.Dec.{eqb}
 use lib.ListN.{length}
 use borrow.Author.Tests.{ne-eqb}
-use Rattle.wire.proofs.First.{cond-cases}
+use Rattle.rows.proofs.Tests.{cond-cases}
 use Rattle.block.proofs.Frames.{frame-filled}
 use Rattle.entry.specs.Interface.{interfaceSize, interfaceOk}
 use Rattle.entry.specs.Route.{routeSize, routeOk}

@@ -7,7 +7,7 @@ use native.Mathlib.Omega.{arith}
 use native.Mathlib.Numerals.{add-one}
 use native.Mathlib.Nat.{add-zero, sub-zero, eq-or-lt-of-le}
 use lib.ListN.{length, getD, drop}
-use Rattle.wire.proofs.Flags.{both-of}
+use Rattle.rows.proofs.Tests.{both-of}
 use Rattle.sheet.specs.Every.{every, listed}
 
 -- one more

@@ -1,5 +1,5 @@
 -- What a valid sheet is, rule by rule; and how the layout tells of it.
-use Prim.Native.Nat.{ℕ, zero, suc, _+_, _*_, _-_, _≤_, _<_}
+use Prim.Native.Nat.{ℕ, zero, suc, _+_, _*_, _≤_, _<_}
 use mathlib.Core.Bool.{Bool, true, _&&_, cond}
 use mathlib.Core.List.{List}
 use mathlib.Core.Path.{_≡_}
@@ -8,11 +8,10 @@ use lib.Dec.{leb, eqb}
 use lib.ListN.{length}
 use borrow.Author.Tests.{lt-ltb, le-ltb, leb-true}
 use Rattle.wire.specs.Numbers.{byteAt}
-use Rattle.wire.proofs.First.{cond-cases}
+use Rattle.rows.proofs.Tests.{cond-cases, both-of}
 use Rattle.block.specs.Block.{usedIn, switchesOf, frameOk}
 use Rattle.entry.specs.Interface.{interfaceSize}
 use Rattle.entry.specs.Route.{routeSize}
-use Rattle.wire.proofs.Flags.{both-of}
 use Rattle.sheet.specs.Every.{every}
 use Rattle.sheet.specs.Rules.{interfaceKind, routeKind, switchesOk, interfaceRight, routeRight, entriesOk, blockOk}
 use Rattle.sheet.specs.Sheet.{sizeOk, blocks, blockAt, interfaceBlocksIn, interfaceBlocks, interfacesIn, blockOkAt, validSheet}

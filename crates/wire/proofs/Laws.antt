@@ -8,8 +8,8 @@ use native.Mathlib.Nat.{add-assoc, zero-add, add-zero, pow-suc, mod-lt, div-add-
 use native.Mathlib.Numerals.{add-one}
 use lib.Pow.{pow-add}
 use lib.Dec.{lit≤}
-use lib.ListN.{length, getD, take, drop, set, length-append, length-take, length-drop, length-set, drop-of-length-le, List·getD-eq-default, List·getD-append}
-use lib.Seq.{take-at, drop-at, drop-drop, getD-take, getD-drop, getD-append-add, length-take-le, set-append-left, sets, sets-eq, paste, paste-suc, take-append-seam, take-length}
+use lib.ListN.{length, take, drop, set, length-append, length-drop, length-set, List·getD-eq-default, List·getD-append}
+use lib.Seq.{take-at, drop-at, drop-drop, getD-take, getD-drop, getD-append-add, length-take-le, sets-eq, paste, paste-suc, take-append-seam, take-length}
 use Rattle.wire.specs.Numbers.{byteAt, be, bytes}
 use Rattle.wire.specs.Parts.{part, splice}
 

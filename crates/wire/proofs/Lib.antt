@@ -1,5 +1,3 @@
 -- Laws that this crate's proofs and the crates above cite.
-pub mod First
-pub mod Flags
 pub mod Laws
 pub mod Determined

@@ -1,5 +1,5 @@
 -- Laws of a call of the engine, by its promise alone: what it answers and sends, and what is read from its record.
-use Prim.Native.Nat.{ℕ, _+_, _/_, _-_, _≤_, _<_}
+use Prim.Native.Nat.{ℕ, _+_, _/_, _≤_, _<_}
 use mathlib.Core.Bool.{true, not, _&&_}
 use mathlib.Core.List.{List}
 use mathlib.Core.Logic.{_⊎_, inl, inr, ⊎-elim}
@@ -11,7 +11,7 @@ use lib.ListN.{length, replicate}
 use Rattle.wire.specs.Numbers.{be, be16, be32, bytes}
 use Rattle.wire.specs.Parts.{splice}
 use Rattle.wire.specs.Addresses.{unicast}
-use Rattle.wire.proofs.Flags.{decided, both-of}
+use Rattle.rows.proofs.Tests.{decided, both-of}
 use Rattle.wire.proofs.Laws.{be-within}
 use Rattle.recent.specs.Entries.{empty}
 use Rattle.response.specs.declared.Note.{Note}

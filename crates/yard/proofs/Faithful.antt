@@ -1,6 +1,6 @@
 -- Demand 3 of document 01, put together: what holds of every walk that is not refused and whose first router accepts, whatever
 -- the yard's addresses do.
-use Prim.Native.Nat.{ℕ, suc, _+_, _*_, _-_, _≤_, _<_}
+use Prim.Native.Nat.{ℕ, suc, _+_, _*_, _≤_, _<_}
 use mathlib.Core.Bool.{true}
 use mathlib.Core.List.{List, _++_}
 use mathlib.Core.Logic.{_⊎_, ⊎-elim}

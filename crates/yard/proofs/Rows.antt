@@ -11,7 +11,7 @@ use lib.ListN.{length, take, drop, getD, drop-of-length-le, length-append}
 use lib.Seq.{take-append-seam}
 use Rattle.wire.specs.Numbers.{byteAt}
 use Rattle.wire.specs.Addresses.{multicast}
-use Rattle.wire.proofs.Flags.{decided}
+use Rattle.rows.proofs.Tests.{decided}
 use Rattle.wire.proofs.Laws.{splice-front}
 use Rattle.recent.specs.Entries.{empty}
 use Rattle.message.specs.declared.Blocks.{Blocks}

@@ -12,7 +12,7 @@ use lib.Dec.{leb, eqb}
 use lib.ListN.{length, take, drop, getD, set, length-set}
 use lib.Seq.{getD-set-same, getD-set-other}
 use Rattle.wire.specs.Numbers.{be32}
-use Rattle.wire.proofs.Flags.{both-of}
+use Rattle.rows.proofs.Tests.{both-of}
 use Rattle.entry.specs.Interface.{interfaceSize, interfaceAt}
 use Rattle.entry.specs.declared.interface.Interface.{Interface}
 use Rattle.sheet.specs.Every.{every}

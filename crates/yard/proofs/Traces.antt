@@ -1,6 +1,6 @@
 -- Every walk whose first router accepts is a trace: visit after visit, each of which accepts, up to an end. What is said of all
 -- walks is said of traces, by a line for each of the two ways to go on from a visit.
-use Prim.Native.Nat.{ℕ, zero, suc, _+_, _*_, _-_, _≤_, _<_}
+use Prim.Native.Nat.{ℕ, zero, suc, _+_, _*_, _≤_, _<_}
 use mathlib.Core.List.{List, [], _∷_}
 use mathlib.Core.Logic.{_⊎_, inl, inr, ⊎-elim}
 use mathlib.Core.Path.{_≡_, refl}
@@ -8,7 +8,7 @@ use native.Mathlib.Omega.{arith}
 use borrow.Author.Tests.{eqb-true, eqb-false}
 use lib.Dec.{eqb}
 use lib.ListN.{length, getD}
-use Rattle.wire.proofs.Flags.{decided}
+use Rattle.rows.proofs.Tests.{decided}
 use Rattle.recent.specs.Entries.{empty}
 use Rattle.message.specs.Format.{most, standardSize}
 use Rattle.message.proofs.Accept.{Accepted}

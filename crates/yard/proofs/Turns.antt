@@ -1,6 +1,6 @@
 -- Laws of one turn of the walk: it ends here, or it goes on to the router that holds the destination, which does not drop what
 -- arrives, and the hops not yet used are one fewer.
-use Prim.Native.Nat.{ℕ, suc, _+_, _-_, _≤_, _<_}
+use Prim.Native.Nat.{ℕ, suc, _+_, _≤_, _<_}
 use mathlib.Core.Bool.{true, false}
 use mathlib.Core.List.{List}
 use mathlib.Core.Logic.{_⊎_, inl, inr, ⊎-elim}
@@ -10,7 +10,7 @@ use borrow.Author.Tests.{eq-eqb, ne-eqb, eqb-true, eqb-false}
 use lib.Dec.{eqb}
 use lib.ListN.{length, getD}
 use Rattle.wire.specs.Addresses.{multicast}
-use Rattle.wire.proofs.Flags.{decided}
+use Rattle.rows.proofs.Tests.{decided}
 use Rattle.recent.specs.Entries.{empty}
 use Rattle.response.specs.declared.Block.{Block}
 use Rattle.response.specs.Fill.{blockOf}

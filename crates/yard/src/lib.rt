@@ -1,11 +1,10 @@
 // A trace walked from router to router: each is a call of the engine, and the walk calls itself for the next.
 use sheet::Found;
 ghost use mathlib.Core.Path.{_≡_};
-ghost use Prim.Native.Nat.{suc, _+_, _*_, _/_, _≤_, _<_};
+ghost use Prim.Native.Nat.{_+_, _*_, _/_, _≤_, _<_};
 ghost use lib.Dec.{eqb};
-ghost use lib.ListN.{length, getD};
+ghost use lib.ListN.{length};
 ghost use Rattle.wire.specs.Numbers.{byteAt};
-ghost use Rattle.wire.specs.Parts.{splice};
 ghost use Rattle.sheet.specs.Every.{every};
 ghost use Rattle.sheet.specs.Sheet.{layoutOf};
 ghost use Rattle.sheet.specs.Tables.{holderOf};

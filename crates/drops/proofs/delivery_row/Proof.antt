@@ -1,5 +1,5 @@
 -- `delivery_row`: each way out is the first row that applies.
-use Rattle.wire.proofs.First.{first}
+use Rattle.rows.proofs.Tests.{first}
 use Rattle.drops.specs.Drop.{deliveryRow}
 use borrow.Author.Needs.{needs}
 use Rattle.drops.proofs.delivery_row.Statement.{statement}

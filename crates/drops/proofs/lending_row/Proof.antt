@@ -1,5 +1,5 @@
 -- `lending_row`: each way out is the first row that applies.
-use Rattle.wire.proofs.First.{first}
+use Rattle.rows.proofs.Tests.{first}
 use Rattle.drops.specs.Drop.{lendingRow}
 use borrow.Author.Needs.{needs}
 use Rattle.drops.proofs.lending_row.Statement.{statement}

@@ -1,5 +1,5 @@
 -- `first_code`: each way out is the first test that holds.
-use Rattle.wire.proofs.First.{first}
+use Rattle.rows.proofs.Tests.{first}
 use Rattle.response.specs.Code.{codeOf}
 use Rattle.response.proofs.first_code.Statement.{statement}
 use Rattle.response.proofs.first_code.Tie as tie

@@ -1,5 +1,5 @@
 -- `rank`: each way out is the first test that holds.
-use Rattle.wire.proofs.First.{first}
+use Rattle.rows.proofs.Tests.{first}
 use Rattle.route.specs.Rank.{rankBy}
 use borrow.Author.Needs.{needs}
 use Rattle.route.proofs.rank.Statement.{statement}

@@ -1,6 +1,5 @@
 -- `yard_ok`: the size is tested first, so that every sheet lies within the yard.
 use borrow.Author.Needs.{needs}
-use Prim.Native.Nat.{_-_}
 use native.Mathlib.Omega.{arith}
 use Rattle.yard.proofs.Sheets.{wrong-size, sheets-few, sheets-counted, yard-checked}
 use Rattle.yard.proofs.yard_ok.Statement.{statement}

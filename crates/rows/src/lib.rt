@@ -1,0 +1,1 @@
+// Tables as lists of rows: definitions and laws, no code.
