@@ -13,7 +13,8 @@ use Rattle.wire.specs.Numbers.{byteAt, be16}
 use Rattle.wire.specs.Parts.{part}
 use Rattle.wire.proofs.Laws.{be-part}
 use Rattle.message.specs.Format.{headerSize, standard, standardSize}
-use Rattle.message.specs.Blocks.{Block, blockAt, begins, blocksFrom, blocksOf, totalSize, standardPlaces, lastOr, standards, standardCount, standardAt, lastStandard, blocksEnd, StandardBlock}
+use Rattle.message.specs.Inside.{StandardBlock}
+use Rattle.message.specs.Blocks.{Placed, placedAt, begins, blocksFrom, blocksOf, totalSize, standardPlaces, lastOr, standards, standardCount, standardAt, lastStandard, blocksEnd}
 use Rattle.rows.proofs.Tests.{decided}
 use Rattle.message.proofs.Cut.{begun, no-blocks, block-first, by-blocks}
 use Rattle.message.proofs.Turns.{standard-more, standard-same}
@@ -24,14 +25,14 @@ unfolding standardPlaces
 no-places at rest b = rw (no-blocks at rest b)
 
 module _ (at : ℕ) (rest : List ℕ) (b : begins rest ≡ true) where
-  abbrev behind : List Block
+  abbrev behind : List Placed
   behind = blocksFrom (at + be16 rest 1) (drop (be16 rest 1) rest)
 
   pub places-more : eqb (byteAt rest 0) standard ≡ true → standardPlaces (blocksFrom at rest) ≡ at ∷ standardPlaces behind
-  places-more k = rw (block-first at rest b) (standard-more (blockAt at rest) behind k)
+  places-more k = rw (block-first at rest b) (standard-more (placedAt at rest) behind k)
 
   pub places-same : eqb (byteAt rest 0) standard ≡ false → standardPlaces (blocksFrom at rest) ≡ standardPlaces behind
-  places-same k = rw (block-first at rest b) (standard-same (blockAt at rest) behind k)
+  places-same k = rw (block-first at rest b) (standard-same (placedAt at rest) behind k)
 
 -- the rule of the type 4 blocks: what holds of one that stands in front, and goes on from behind a block to the whole,
 -- holds of every one

@@ -13,7 +13,7 @@ use Rattle.wire.specs.Numbers.{byteAt, be, be16}
 use Rattle.wire.proofs.Laws.{be-same}
 use Rattle.message.specs.Format.{headerSize, query, standard, standardSize, codeOffset}
 use Rattle.message.specs.Header.{headerOf}
-use Rattle.message.specs.Blocks.{blockAt, begins, blocksFrom, blocksOf, standards, standardCount, standardAt, lastStandard, blocksEnd, fillsMessage, requestForm, rightForm}
+use Rattle.message.specs.Blocks.{placedAt, begins, blocksFrom, blocksOf, standards, standardCount, standardAt, lastStandard, blocksEnd, fillsMessage, requestForm, rightForm}
 use Rattle.message.proofs.Fields.{retyped, same-but-type, same-header}
 use Rattle.message.proofs.Cut.{begun, block-first}
 use Rattle.message.proofs.Standards.{by-standard, last-is, last-low}
@@ -65,7 +65,7 @@ module _ (rest : List ℕ) (i v : ℕ) (behind : 3 ≤ i) where
 
   -- what stands behind the block is what stood there, with the byte written if it lies there
   first-kept : (at : ℕ) → begins rest ≡ true
-      → blocksFrom at (set rest i v) ≡ blockAt at rest ∷ blocksFrom (at + be16 rest 1) (drop (be16 rest 1) (set rest i v))
+      → blocksFrom at (set rest i v) ≡ placedAt at rest ∷ blocksFrom (at + be16 rest 1) (drop (be16 rest 1) (set rest i v))
   first-kept at b = rw (block-first at (set rest i v) (begins-kept ∙ b), kind-kept, size-kept)
 
 -- a byte behind the type and the length of a type 4 block of a message
