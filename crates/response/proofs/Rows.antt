@@ -10,15 +10,16 @@ use Rattle.entry.specs.declared.route.Route.{Route}
 use Rattle.route.specs.declared.Chosen.{Chosen}
 use Rattle.route.specs.declared.Chosen.the-variants.{Found, Nothing}
 use Rattle.response.specs.declared.View.{View}
-use Rattle.response.specs.declared.Tests.{Tests}
 use Rattle.response.specs.declared.Filled.{Filled}
-use Rattle.response.specs.Code.{testsFor, testsOf}
-use Rattle.response.specs.Fill.{sOf, maskOf, filledOf, unfilled, fillFor, RouteFits, endsTrace}
+use Rattle.rows.specs.Rows.{byFirst, firstOf}
+use Rattle.response.specs.Code.{codeWrongLastHop, codeNoRoute, wrongLastHop, codesFor, codes, codeOf}
+use Rattle.response.specs.Inside.{RouteFits}
+use Rattle.response.specs.Fill.{sOf, maskOf, filledOf, unfilled, fillFor, endsTrace}
 
 module _ (v : View) (r : Route) (found : v .chosen ≡ Found r) where
-  pub tests-found : (t : Tests) → t ≡ testsFor v (Found r) → t ≡ testsOf v
-  unfolding testsOf
-  tests-found t e = e ∙ ap (testsFor v) (sym found)
+  pub code-found : (code : ℕ) → code ≡ firstOf (codesFor v (Found r)) → code ≡ codeOf v
+  unfolding codes
+  code-found code e = e ∙ ap (λ (w : Chosen). firstOf (codesFor v w)) (sym found)
 
   pub ends-found : (rp : Bool) (blocks hops : ℕ) → rp ≡ isRp r → (v .prohibited || rp || eqb (r .upstream) 0 || eqb blocks hops) ≡ endsTrace v blocks hops
   unfolding endsTrace
@@ -31,9 +32,14 @@ module _ (v : View) (r : Route) (found : v .chosen ≡ Found r) where
   fits-found fits = rw found at fits
 
 module _ (v : View) (none : v .chosen ≡ Nothing) where
-  pub tests-none : testsFor v Nothing ≡ testsOf v
-  unfolding testsOf
-  tests-none = ap (testsFor v) (sym none)
+  -- no route: WRONG_LAST_HOP, or else NO_ROUTE
+  pub code-none-wrong : wrongLastHop v ≡ true → codeWrongLastHop ≡ codeOf v
+  unfolding codes byFirst
+  code-none-wrong e = rw (none, e)
+
+  pub code-none : wrongLastHop v ≡ false → codeNoRoute ≡ codeOf v
+  unfolding codes byFirst
+  code-none e = rw (none, e)
 
   pub ends-none : (blocks hops : ℕ) → true ≡ endsTrace v blocks hops
   unfolding endsTrace

@@ -1,5 +1,5 @@
 -- What the block is filled with, and what ends a trace. Neither looks at the other: the code decides nothing.
-use Prim.Native.Nat.{ℕ, _+_, _≤_}
+use Prim.Native.Nat.{ℕ, _+_}
 use mathlib.Core.Bool.{Bool, true, _&&_, _||_, cond}
 use lib.Dec.{ltb, eqb}
 use Rattle.wire.specs.Addresses.{allOnes}
@@ -12,7 +12,7 @@ use Rattle.response.specs.declared.Incoming.{Incoming}
 use Rattle.response.specs.declared.Filled.{Filled}
 use Rattle.response.specs.declared.Block.{Block}
 use Rattle.response.specs.View.{notCounted, addressOf, inputOf}
-use Rattle.response.specs.Code.{testsOf, codeOf}
+use Rattle.response.specs.Code.{codeOf}
 
 -- 224.0.0.2, all routers of the link: where upstream is not known
 abbrev pub allRouters : ℕ
@@ -56,11 +56,6 @@ abbrev pub fillFor : View → Chosen → Filled
 fillFor v Nothing = unfilled
 fillFor v (Found r) = cond (v .prohibited) unfilled (filledOf r (v .incoming))
 
--- a route's source length is at most 32, as in every valid sheet, so that S and mask fit their byte
-abbrev pub RouteFits : Chosen → Type 0
-RouteFits Nothing = Unit {0}
-RouteFits (Found r) = r .length ≤ 32
-
 -- the whole block: time, outgoing address, output count and TTL of the receiving interface; the code; the rest as filled
 unfoldable pub blockOf : View → Block
 blockOf v =
@@ -69,15 +64,15 @@ blockOf v =
       outgoing = v .here .address;
       output = v .here .output;
       threshold = v .here .threshold;
-      code = codeOf (testsOf v);
+      code = codeOf v;
       filled = fillFor v (v .chosen);
     }
 
--- a Reply if there is no route, tracing is prohibited, the route is RP, upstream is 0, or type 4 blocks now equal hops
+-- a Reply if there is no route, tracing is prohibited, the route is RP, upstream is 0, or the hops used now equal the hops
 abbrev pub endsFor : Bool → ℕ → ℕ → Chosen → Bool
-endsFor prohibited blocks hops Nothing = true
-endsFor prohibited blocks hops (Found r) = prohibited || isRp r || eqb (r .upstream) 0 || eqb blocks hops
+endsFor prohibited used hops Nothing = true
+endsFor prohibited used hops (Found r) = prohibited || isRp r || eqb (r .upstream) 0 || eqb used hops
 
 -- by the route that the router chose
 unfoldable pub endsTrace : View → ℕ → ℕ → Bool
-endsTrace v blocks hops = endsFor (v .prohibited) blocks hops (v .chosen)
+endsTrace v used hops = endsFor (v .prohibited) used hops (v .chosen)

@@ -10,9 +10,38 @@ ghost use Rattle.entry.specs.Interface.{isMulticast, isBoundary};
 ghost use Rattle.entry.specs.Route.{isRp, inMap};
 ghost use Rattle.route.specs.declared.Chosen.the-variants.{Found};
 ghost use Rattle.response.specs.View.{boundaryOn, addressOf, inputOf};
-ghost use Rattle.response.specs.Code.{scoped, testsFor, testsOf, codeOf};
-ghost use Rattle.response.specs.Fill.{upstreamOf, totalOf, maskOf, sOf, filledOf, unfilled, RouteFits, fillFor, blockOf, endsTrace};
+ghost use Rattle.rows.specs.Rows.{firstOf};
+ghost use Rattle.response.specs.Code.{scoped, codesFor, codeOf};
+ghost use Rattle.response.specs.Fill.{upstreamOf, totalOf, maskOf, sOf, filledOf, unfilled, fillFor, blockOf, endsTrace};
+ghost use Rattle.response.specs.Inside.{RouteFits};
 ghost use Rattle.response.specs.Bytes.{blockBytes, noteBytes};
+
+// The forwarding codes.
+const NO_ERROR: u8 = 0;
+
+const WRONG_IF: u8 = 1;
+
+const PRUNE_SENT: u8 = 2;
+
+const PRUNE_RCVD: u8 = 3;
+
+const SCOPED: u8 = 4;
+
+const NO_ROUTE: u8 = 5;
+
+const WRONG_LAST_HOP: u8 = 6;
+
+const NOT_FORWARDING: u8 = 7;
+
+const REACHED_RP: u8 = 8;
+
+const RPF_IF: u8 = 9;
+
+const NO_MULTICAST: u8 = 10;
+
+const ADMIN_PROHIB: u8 = 131;
+
+pub const NO_SPACE: u8 = 129;
 
 // The incoming interface of the route chosen, where it is known.
 pub enum Incoming {
@@ -31,22 +60,6 @@ pub struct View {
     pub here: Interface,
     pub group: u32,
     pub time: u32,
-}
-
-// The results of the tests for a forwarding code, in their order: WRONG_LAST_HOP, REACHED_RP, NO_ROUTE, ADMIN_PROHIB,
-// NO_MULTICAST, RPF_IF, WRONG_IF, SCOPED, PRUNE_SENT, PRUNE_RCVD, NOT_FORWARDING.
-struct Tests {
-    wronghop: bool,
-    rp: bool,
-    noroute: bool,
-    prohibited: bool,
-    nomulticast: bool,
-    rpf: bool,
-    wrongif: bool,
-    scoped: bool,
-    prunesent: bool,
-    pruned: bool,
-    stopped: bool,
 }
 
 // The fields that come from the route; `mask` is S and the source mask, as one byte.
@@ -121,87 +134,59 @@ fn in_scope(v: View) -> bool
     (v.group / 16777216 == 239) & (boundary(v.here) | boundary_on(incoming))
 }
 
-// The tests that need a route, where one was chosen.
-fn tests_on(v: View, r: Route) -> Tests
+// The first code that applies where a route was chosen.
+fn code_on(v: View, r: Route) -> u8
     requires { ⌜ v .number < 64 ⌝ }
-    ensures { λ t. ⌜ t ≡ testsFor v (Found r) ⌝ }
+    ensures { λ code. ⌜ code ≡ firstOf (codesFor v (Found r)) ⌝ }
 {
-    Tests {
-        wronghop: v.query & !v.proper,
-        rp: rp(r),
-        noroute: false,
-        prohibited: v.prohibited,
-        nomulticast: !multicast(v.here),
-        rpf: v.number == r.incoming as u32,
-        wrongif: !bit(r.forward, v.number),
-        scoped: in_scope(v),
-        prunesent: r.flags / 2 % 2 == 1,
-        pruned: bit(r.pruned, v.number),
-        stopped: bit(r.stopped, v.number),
+    if v.query & !v.proper {
+        return WRONG_LAST_HOP;
     }
+    if rp(r) {
+        return REACHED_RP;
+    }
+    if v.prohibited {
+        return ADMIN_PROHIB;
+    }
+    if !multicast(v.here) {
+        return NO_MULTICAST;
+    }
+    if v.number == r.incoming as u32 {
+        return RPF_IF;
+    }
+    if !bit(r.forward, v.number) {
+        return WRONG_IF;
+    }
+    if in_scope(v) {
+        return SCOPED;
+    }
+    if r.flags / 2 % 2 == 1 {
+        return PRUNE_SENT;
+    }
+    if bit(r.pruned, v.number) {
+        return PRUNE_RCVD;
+    }
+    if bit(r.stopped, v.number) {
+        return NOT_FORWARDING;
+    }
+    NO_ERROR
 }
 
-fn tests_of(v: View) -> Tests
+// The first code that applies.
+fn code_of(v: View) -> u8
     requires { ⌜ v .number < 64 ⌝ }
-    ensures { λ t. ⌜ t ≡ testsOf v ⌝ }
+    ensures { λ code. ⌜ code ≡ codeOf v ⌝ }
 {
     let chosen = v.chosen;
     match chosen {
-        Chosen::Found(r) => tests_on(v, r),
-        Chosen::Nothing => Tests {
-            wronghop: v.query & !v.proper,
-            rp: false,
-            noroute: true,
-            prohibited: false,
-            nomulticast: false,
-            rpf: false,
-            wrongif: false,
-            scoped: false,
-            prunesent: false,
-            pruned: false,
-            stopped: false,
-        },
+        Chosen::Found(r) => code_on(v, r),
+        Chosen::Nothing => {
+            if v.query & !v.proper {
+                return WRONG_LAST_HOP;
+            }
+            NO_ROUTE
+        }
     }
-}
-
-// The first code whose test holds.
-fn first_code(t: Tests) -> u8
-    ensures { λ r. ⌜ r ≡ codeOf t ⌝ }
-{
-    if t.wronghop {
-        return 6;
-    }
-    if t.rp {
-        return 8;
-    }
-    if t.noroute {
-        return 5;
-    }
-    if t.prohibited {
-        return 131;
-    }
-    if t.nomulticast {
-        return 10;
-    }
-    if t.rpf {
-        return 9;
-    }
-    if t.wrongif {
-        return 1;
-    }
-    if t.scoped {
-        return 4;
-    }
-    if t.prunesent {
-        return 2;
-    }
-    if t.pruned {
-        return 3;
-    }
-    if t.stopped {
-        return 7;
-    }
-    0
 }
 
 // The address of the incoming interface, 0 if unknown.
@@ -319,18 +304,18 @@ pub fn block_of(v: View) -> Block
         outgoing: here.address,
         output: here.output,
         threshold: here.threshold,
-        code: first_code(tests_of(v)),
+        code: code_of(v),
         filled: fill(v),
     }
 }
 
-// Whether the trace ends here, with so many type 4 blocks now.
-pub fn ends_trace(v: View, blocks: u32, hops: u32) -> bool
-    ensures { λ r. ⌜ r ≡ endsTrace v blocks hops ⌝ }
+// Whether the trace ends here, with so many hops used now.
+pub fn ends_trace(v: View, used: u32, hops: u32) -> bool
+    ensures { λ r. ⌜ r ≡ endsTrace v used hops ⌝ }
 {
     let chosen = v.chosen;
     match chosen {
-        Chosen::Found(r) => v.prohibited | rp(r) | (r.upstream == 0) | (blocks == hops),
+        Chosen::Found(r) => v.prohibited | rp(r) | (r.upstream == 0) | (used == hops),
         Chosen::Nothing => true,
     }
 }
