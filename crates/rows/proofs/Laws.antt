@@ -95,14 +95,20 @@ module _ (rs : List Row) where
   first-at-most most e =
       ⊎-elim (λ f. leb-true (firstOf rs) most (first-passes (λ n. leb n most) rs (firstOf rs) e f)) (λ none. rw (none-zero none) (omega arith)) (first-or-none rs)
 
--- a number found by trying some rows decides for all rows that begin with them
+-- a number found by trying some rows decides for them, and for all rows that begin with them
+module _ {A : Type 0} (given : ℕ → A) (other : A) (rs : List Row) (n : ℕ) (tried : n ≡ firstOf rs) where
+  pub given-alone : (n ≡ 0 → ⊥) → byFirst given other rs ≡ given n
+  given-alone some = first-is given other rs n (rw tried (some-first rs (λ z. some (tried ∙ z))))
+
+  pub none-alone : numbered rs ≡ true → n ≡ 0 → byFirst given other rs ≡ other
+  none-alone e z = none-is given other rs (zero-none rs e (sym tried ∙ z))
+
 module _ {A : Type 0} (given : ℕ → A) (other : A) (rs ss : List Row) (n : ℕ) (tried : n ≡ firstOf rs) where
   pub given-by : (n ≡ 0 → ⊥) → byFirst given other (rs ++ ss) ≡ given n
-  given-by some =
-      joined given other rs ss ∙ first-is given _ rs n (rw (tried) (some-first rs (λ z. some (tried ∙ z))))
+  given-by some = joined given other rs ss ∙ given-alone given _ rs n tried some
 
   pub none-by : numbered rs ≡ true → n ≡ 0 → byFirst given other (rs ++ ss) ≡ byFirst given other ss
-  none-by e z = joined given other rs ss ∙ none-is given _ rs (zero-none rs e (sym tried ∙ z))
+  none-by e z = joined given other rs ss ∙ none-alone given _ rs n tried e z
 
 -- whether the row of a number applies, so that a proof finds it by its number and not by its place
 abbrev pub appliesAt : ℕ → List Row → Bool
