@@ -3,13 +3,13 @@ use Prim.Native.Nat.{ℕ, _≤_, _<_}
 use mathlib.Core.Bool.{true, false, not, _&&_, _||_}
 use mathlib.Core.List.{List, _++_}
 use mathlib.Core.Logic.{⊎-elim}
-use mathlib.Core.Path.{_≡_, refl}
+use mathlib.Core.Path.{_≡_, refl, sym, ap, _∙_}
 use native.Mathlib.Omega.{arith}
 use lib.Dec.{leb, ltb, eqb}
 use borrow.Author.Tests.{le-ltb, lt-leb, ne-eqb, ltb-true, ltb-false, leb-false, not-false}
-use Rattle.rows.specs.Rows.{Row, NoneApplies}
+use Rattle.rows.specs.Rows.{Row, firstOf, NoneApplies, IsFirst}
 use Rattle.rows.proofs.Tests.{decided, neither-of}
-use Rattle.rows.proofs.Laws.{zero-none, first-at-most, appliesAt, none-at, none-joined, none-split}
+use Rattle.rows.proofs.Laws.{first-or-none, none-is, first-is, some-first, zero-none, none-zero, first-at-most, appliesAt, none-at, none-joined, none-split}
 use Rattle.wire.specs.Addresses.{linkScoped}
 use Rattle.recent.specs.Layout.{wellFormed}
 use Rattle.recent.specs.Entries.{seenIn}
@@ -19,7 +19,9 @@ use Rattle.message.specs.Format.{most}
 use Rattle.message.specs.Header.{headerOf}
 use Rattle.message.specs.Blocks.{standardCount}
 use Rattle.message.specs.Room.{isFull, hopsUsed}
-use Rattle.message.specs.Check.{headerRows, messageRows}
+use Rattle.message.specs.Check.{headerRows, messageRows, blocksSeen}
+use Rattle.drops.specs.declared.Verdict.{Verdict}
+use Rattle.drops.specs.Inside.{dropVerdict, passVerdict, verdictOf}
 use Rattle.message.proofs.Laws.{Accepted, none-applies, applies-none, full-has-standard}
 use Rattle.drops.specs.Arrival.{Arrival, isQuery, isRequest, lastHopFor}
 use Rattle.drops.specs.Drop.{dropRoom, dropState, dropSheet, dropIface, dropDest, dropNear, dropCount, dropSeen, dropLastHop, lastDrop, noteSize, nearTtl, isHeld, lendingRows, deliveryRows, routeRows, table, dropOf}
@@ -97,3 +99,30 @@ module _ (a : Arrival) (sheet recent : List ℕ) (output note : ℕ) where
       let last : NoneApplies behind = (rw (t .reaches), (t .near, (t .few, (t .unseen, (t .last-hop, (has-previous (t .message), tt)))))) in
       none-joined before (messageRows (a .message) ++ behind) first
       (none-joined (messageRows (a .message)) behind (applies-none (a .message) (t .message)) last)
+
+-- the verdict: its number is that of the first row that applies; where it is 0 none does, and it is what was found out
+module _ (a : Arrival) (sheet recent : List ℕ) (output note : ℕ) (v : Verdict) (told : v ≡ verdictOf a sheet recent output note) where
+  abbrev pass : Verdict
+  pass = passVerdict (headerOf (a .message)) (blocksSeen (a .message)) sheet
+
+  abbrev rows : List Row
+  rows = table a sheet recent output note
+
+  number-is : v .number ≡ firstOf rows
+  unfolding verdictOf dropVerdict passVerdict
+  number-is =
+      let number : Verdict → ℕ = λ (x : Verdict). x .number in
+      ⊎-elim (λ f. ap number (told ∙ first-is dropVerdict pass rows (firstOf rows) f))
+      (λ none. ap number (told ∙ none-is dropVerdict pass rows none) ∙ sym (none-zero rows none))
+      (first-or-none rows)
+
+  pub verdict-first : (v .number ≡ 0 → ⊥) → IsFirst rows (v .number)
+  verdict-first some = rw number-is (some-first rows (λ z. some (number-is ∙ z)))
+
+  module _ (passes : v .number ≡ 0) where
+    pub verdict-none : NoneApplies rows
+    verdict-none = zero-passes a sheet recent output note (sym number-is ∙ passes)
+
+    pub verdict-passes : v ≡ pass
+    unfolding verdictOf
+    verdict-passes = told ∙ none-is dropVerdict pass rows verdict-none

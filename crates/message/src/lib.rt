@@ -27,6 +27,9 @@ const AUGMENTED: u8 = 5;
 
 pub const STANDARD_SIZE: usize = 52;
 
+// The place of the forwarding code in a Standard Response Block.
+pub const CODE_OFFSET: usize = 51;
+
 const AUGMENTED_LEAST: usize = 8;
 
 const AUGMENTED_UNIT: usize = 4;

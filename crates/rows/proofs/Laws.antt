@@ -8,7 +8,7 @@ use mathlib.Core.Path.{_≡_, refl, sym, ap, _∙_}
 use native.Mathlib.Omega.{arith}
 use borrow.Author.Tests.{leb-true}
 use lib.Dec.{leb, eqb}
-use Rattle.rows.specs.Rows.{Row, byFirst, firstOf, NoneApplies, IsFirst}
+use Rattle.rows.specs.Rows.{Row, byFirst, firstOf, NoneApplies, IsFirst, Noted}
 use Rattle.rows.proofs.Tests.{both-of}
 
 -- a row in front of others
@@ -58,9 +58,13 @@ module _ {A : Type 0} (given : ℕ → A) (other : A) where
   joined [] ss = refl
   joined (r ∷ rs) ss = rw (joined rs ss)
 
--- only one number is that of the first row that applies
-pub first-unique : (rs : List Row) (n : ℕ) → IsFirst rs n → n ≡ firstOf rs
-first-unique rs n f = sym (first-is (λ n. n) 0 rs n f)
+-- the number that some rows give is `firstOf` of them, and no other
+pub noted : (rs : List Row) → Noted rs (firstOf rs)
+noted rs = ⊎-elim (λ f. inl f) (λ none. inr (none, none-is (λ n. n) 0 rs none)) (first-or-none rs)
+
+pub noted-is : (rs : List Row) (n : ℕ) → Noted rs n → n ≡ firstOf rs
+noted-is rs n (inl f) = sym (first-is (λ n. n) 0 rs n f)
+noted-is rs n (inr none) = none .1 ∙ sym (none-is (λ n. n) 0 rs (none .0))
 
 -- all numbers of some rows pass a test
 abbrev pub numbersPass : (ℕ → Bool) → List Row → Bool

@@ -1,6 +1,6 @@
 -- Laws of a Request sent on: it has one type 4 block more than what was received and the same header but for the type, so that
 -- the hops not yet used fall by one; it goes to a unicast address or to 224.0.0.2; and the router that it reaches does not drop it.
-use Prim.Native.Nat.{ℕ, suc, _+_, _-_, _≤_, _<_}
+use Prim.Native.Nat.{ℕ, suc, _+_, _<_}
 use mathlib.Core.Bool.{Bool, true, false, _||_}
 use mathlib.Core.List.{List}
 use mathlib.Core.Logic.{_⊎_, inl, inr, ⊎-elim}
@@ -31,20 +31,19 @@ use Rattle.response.specs.Bytes.{blockBytes}
 use Rattle.message.specs.Format.{most, query, request, standardSize}
 use Rattle.message.specs.Header.{headerOf}
 use Rattle.message.specs.Blocks.{standardCount, lastStandard}
-use Rattle.message.proofs.Fields.{retyped}
-use Rattle.message.proofs.Standards.{standards-fit}
-use Rattle.message.proofs.Accept.{Accepted, accepted-kinds, accepted-query}
-use Rattle.message.proofs.Sent.{sent-header, sent-count, sent-last, sent-accepted}
+use Rattle.message.proofs.Laws.{retyped, standards-fit, Accepted, accepted-kinds, accepted-query, sent-header, sent-count, sent-last, sent-accepted}
 use Rattle.drops.specs.Arrival.{Arrival, arrival, routeFor}
-use Rattle.drops.specs.Drop.{noteSize, dropOf}
+use Rattle.drops.specs.Drop.{noteSize, nearTtl, table}
 use Rattle.engine.specs.View.{viewWith, viewOf}
 use Rattle.engine.specs.Answer.{Sent, sentOn, on, noteOn, longerMessage, sentBy}
-use Rattle.engine.proofs.LawsDrop.{Taken, not-dropped}
-use Rattle.engine.proofs.LawsSent.{sent-cases, longer-as, longer-length, block-standard}
+use Rattle.rows.specs.Rows.{NoneApplies}
+use Rattle.message.specs.Room.{HasRoom, hopsUsed, hopsLeft}
+use Rattle.drops.proofs.Laws.{Taken, not-dropped}
+use Rattle.engine.proofs.Sent.{sent-cases, longer-as, longer-length, block-standard}
 
 -- the type 4 blocks of an accepted message stay below its hops
 pub blocks-below-hops : (a : Arrival) (sheet recent : List ℕ) (output note : ℕ) → Taken a sheet recent output note
-    → standardCount (a .message) < headerOf (a .message) .hops
+    → hopsUsed (a .message) < headerOf (a .message) .hops
 blocks-below-hops a sheet recent output note t =
     let m = a .message in
     let h = headerOf m in
@@ -89,21 +88,21 @@ goes-upstream sheet source group r chosen some =
 
 -- a Request sent on, from what was received
 pub record Grown (a : Arrival) (time : ℕ) (sheet : List ℕ) (s : Sent) : Type 0 where
-  pub room : length (a .message) + standardSize ≤ most
+  pub room : HasRoom (a .message)
   pub message : s .message ≡ longerMessage request (a .message) (blockOf (viewOf a time sheet))
   pub long : length (s .message) ≡ length (a .message) + standardSize
   pub noted : s .note .length ≡ length (s .message)
   pub header : headerOf (s .message) ≡ retyped request (headerOf (a .message))
   pub count : standardCount (s .message) ≡ standardCount (a .message) + 1
   pub last : lastStandard (s .message) ≡ length (a .message)
-  pub few : standardCount (s .message) < headerOf (s .message) .hops
-  pub falls : headerOf (a .message) .hops - standardCount (a .message) ≡ suc (headerOf (s .message) .hops - standardCount (s .message))
+  pub few : hopsUsed (s .message) < headerOf (s .message) .hops
+  pub falls : hopsLeft (a .message) ≡ suc (hopsLeft (s .message))
   pub accepts : Accepted (s .message)
   pub goes : (unicast (s .note .destination) ≡ true) ⊎ (s .note .destination ≡ allRouters)
 
 module _ (a : Arrival) (time : ℕ) (sheet recent : List ℕ) (output note : ℕ) (t : Taken a sheet recent output note) where
-  grown : length (a .message) + standardSize ≤ most
-      → endsTrace (viewOf a time sheet) (standardCount (a .message) + 1) (headerOf (a .message) .hops) ≡ false
+  grown : HasRoom (a .message)
+      → endsTrace (viewOf a time sheet) (hopsUsed (a .message) + 1) (headerOf (a .message) .hops) ≡ false
       → Grown a time sheet (on (viewOf a time sheet) (longerMessage request (a .message) (blockOf (viewOf a time sheet))))
   unfolding viewWith routeFor
   grown room e =
@@ -111,7 +110,7 @@ module _ (a : Arrival) (time : ℕ) (sheet recent : List ℕ) (output note : ℕ
       let h = headerOf m in
       let v = viewOf a time sheet in
       let b = blockOf v in
-      let o = onward v (standardCount m + 1) (h .hops) e in
+      let o = onward v (hopsUsed m + 1) (h .hops) e in
       let as-sent = longer-as request m b (omega (arith, t .message .low)) in
       let header : headerOf (longerMessage request m b) ≡ retyped request h =
       rw as-sent (sent-header m (t .message) (blockBytes b) (block-standard b) request) in
@@ -159,12 +158,12 @@ sent-noted a time sheet =
 
 -- a Request with fewer blocks than hops, delivered with TTL 255 to the interface that holds its destination, is not dropped
 pub no-later-drop : (m : List ℕ) (destination i : ℕ) (sheet : List ℕ) → Accepted m → headerOf m .kind ≡ request → standardCount m < headerOf m .hops
-    → holderOf sheet destination ≡ At i → dropOf (arrival m destination i 255) sheet empty most noteSize ≡ 0
+    → holderOf sheet destination ≡ At i → NoneApplies (table (arrival m destination i nearTtl) sheet empty most noteSize)
 no-later-drop m destination i sheet accepts is-request few held =
     let there = holder-there sheet destination i held in
     let asked : eqb (headerOf m .kind) request ≡ true = eq-eqb _ _ is-request in
     let no-query : eqb (headerOf m .kind) query ≡ false = ne-eqb (headerOf m .kind) query (λ e. omega arith) in
-    not-dropped (arrival m destination i 255) sheet empty most noteSize
+    not-dropped (arrival m destination i nearTtl) sheet empty most noteSize
     (record {
       output-room = lit≤ tt;
       note-room = lit≤ tt;

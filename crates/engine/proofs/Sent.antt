@@ -16,22 +16,34 @@ use Rattle.sheet.specs.Tables.{interfaceOf}
 use Rattle.route.specs.declared.Chosen.the-variants.{Nothing}
 use Rattle.response.specs.declared.View.{View}
 use Rattle.response.specs.declared.Block.{Block}
-use Rattle.response.specs.Code.{wrongLastHop, testsOf, codeOf}
+use Rattle.response.specs.Code.{wrongLastHop, codeOf, codeNoSpace, codeWrongLastHop, codes}
 use Rattle.response.specs.Fill.{blockOf, endsTrace}
 use Rattle.response.specs.Bytes.{blockBytes}
-use Rattle.response.proofs.Laws.{Noted, results, code-is-first, block-length, no-route-ends, hidden-no-route}
+use Rattle.response.proofs.Laws.{block-length, no-route-ends, hidden-no-route}
 use Rattle.message.specs.Format.{most, request, reply, standardSize, codeOffset}
 use Rattle.message.specs.Header.{headerOf}
 use Rattle.message.specs.Blocks.{standards, standardCount, lastStandard, StandardBlock}
-use Rattle.message.proofs.Accept.{Accepted, full-has-standard}
-use Rattle.message.proofs.Write.{typed-standards, coded-standards}
-use Rattle.message.proofs.Sent.{sent-count}
+use Rattle.message.proofs.Laws.{Accepted, full-has-standard, typed-standards, coded-standards, sent-count}
 use Rattle.drops.specs.Arrival.{Arrival, routeFor}
-use Rattle.drops.specs.Drop.{isFull, dropOf}
+use Rattle.message.specs.Room.{isFull, Full, HasRoom, hopsUsed}
+use Rattle.drops.specs.Drop.{table}
+use Rattle.rows.specs.Rows.{NoneApplies, IsFirst, Noted}
+use Rattle.rows.proofs.Laws.{none-is, first-is, noted}
 use Rattle.engine.specs.View.{viewWith, viewOf}
-use Rattle.engine.specs.Answer.{Sent, sentOn, sentHome, noSpace, home, on, fullMessage, longerMessage, longerAnswer, sentBy}
-use Rattle.engine.specs.Step.{stepOf}
-use Rattle.engine.proofs.LawsDrop.{taken-is-sent}
+use Rattle.engine.specs.Answer.{Sent, sentOn, sentHome, home, on, fullMessage, longerMessage, longerAnswer, sentBy}
+use Rattle.engine.specs.Step.{outcome, answeredBy, stepOf}
+
+-- a drop returns its number and changes nothing lent; anything else is answered by what is sent
+module _ (a : Arrival) (time : ℕ) (sheet recent output note : List ℕ) where
+  pub drop-changes-nothing : (n : ℕ) → IsFirst (table a sheet recent (length output) (length note)) n
+      → stepOf a time sheet recent output note ≡ outcome n recent output note
+  unfolding stepOf
+  drop-changes-nothing n f = first-is (λ number. outcome number recent output note) _ _ n f
+
+  pub taken-is-sent : NoneApplies (table a sheet recent (length output) (length note))
+      → stepOf a time sheet recent output note ≡ answeredBy (sentBy a time sheet) (headerOf (a .message)) recent output note
+  unfolding stepOf
+  taken-is-sent none = none-is (λ number. outcome number recent output note) _ _ none
 
 -- a message with a type written and a block behind it
 module _ (kind : ℕ) (m : List ℕ) (b : Block) where
@@ -75,11 +87,11 @@ longer-blocks kind m b accepts =
     rw (longer-as kind m b (omega (arith, accepts .low))) (sent-count m accepts (blockBytes b) (block-standard b) kind)
 
 -- without room the type 4 blocks stay where they are
-pub full-standards : (m : List ℕ) → Accepted m → most < length m + standardSize → standards (fullMessage m) ≡ standards m
+pub full-standards : (m : List ℕ) → Accepted m → Full m → standards (fullMessage m) ≡ standards m
 full-standards m accepts full =
     let typed = typed-standards m reply in
     let some : 0 < standardCount (set m 0 reply) = rw typed (full-has-standard m accepts full) in
-    rw typed at (coded-standards (set m 0 reply) noSpace some)
+    rw typed at (coded-standards (set m 0 reply) codeNoSpace some)
 
 -- the three ways to answer: without room, with the block home, with the block on. What holds of each holds of what is sent
 module _ (a : Arrival) (time : ℕ) (sheet : List ℕ) where
@@ -93,17 +105,17 @@ module _ (a : Arrival) (time : ℕ) (sheet : List ℕ) where
   block = blockOf view
 
   pub sent-cases : (P : Sent → Type 0)
-      → (most < length m + standardSize → P (home (headerOf m) (interfaceOf sheet (a .receiving) .address) (fullMessage m)))
-      → (length m + standardSize ≤ most → endsTrace view (standardCount m + 1) (headerOf m .hops) ≡ true
+      → (Full m → P (home (headerOf m) (interfaceOf sheet (a .receiving) .address) (fullMessage m)))
+      → (HasRoom m → endsTrace view (hopsUsed m + 1) (headerOf m .hops) ≡ true
       → P (home (headerOf m) (view .here .address) (longerMessage reply m block)))
-      → (length m + standardSize ≤ most → endsTrace view (standardCount m + 1) (headerOf m .hops) ≡ false → P (on view (longerMessage request m block)))
+      → (HasRoom m → endsTrace view (hopsUsed m + 1) (headerOf m .hops) ≡ false → P (on view (longerMessage request m block)))
       → P (sentBy a time sheet)
   unfolding sentBy longerAnswer
   sent-cases P full last next =
-      cond-cases P (isFull (length m)) _ _ (λ e. full (ltb-true most (length m + standardSize) e))
+      cond-cases P (isFull m) _ _ (λ e. full (ltb-true most (length m + standardSize) e))
       (λ e.
       let room = ltb-false most (length m + standardSize) e in
-      cond-cases P (endsTrace view (standardCount m + 1) (headerOf m .hops)) _ _ (last room) (next room))
+      cond-cases P (endsTrace view (hopsUsed m + 1) (headerOf m .hops)) _ _ (last room) (next room))
 
   -- 100 or 101
   pub sent-answer : (sentBy a time sheet .answer ≡ sentOn) ⊎ (sentBy a time sheet .answer ≡ sentHome)
@@ -111,7 +123,7 @@ module _ (a : Arrival) (time : ℕ) (sheet : List ℕ) where
       sent-cases (λ (s : Sent). (s .answer ≡ sentOn) ⊎ (s .answer ≡ sentHome)) (λ h. inr refl) (λ h e. inr refl) (λ h e. inl refl)
 
   -- with room, the message sent begins with the one received but for its type byte
-  pub sent-begins : 0 < length m → length m + standardSize ≤ most → take (length m) (sentBy a time sheet .message) ≡ set m 0 (byteAt (sentBy a time sheet .message) 0)
+  pub sent-begins : 0 < length m → HasRoom m → take (length m) (sentBy a time sheet .message) ≡ set m 0 (byteAt (sentBy a time sheet .message) 0)
   sent-begins some room =
       let as-typed : (kind : ℕ) → take (length m) (longerMessage kind m block) ≡ set m 0 (byteAt (longerMessage kind m block) 0) =
       λ kind. rw (longer-type kind m block some) (longer-begins kind m block) in
@@ -119,26 +131,26 @@ module _ (a : Arrival) (time : ℕ) (sheet : List ℕ) where
       (λ h. absurd (omega arith)) (λ h e. as-typed reply) (λ h e. as-typed request)
 
   -- without room only the type and the code of the last type 4 block differ, and it is a Reply
-  pub sent-full : most < length m + standardSize → (sentBy a time sheet .message ≡ fullMessage m) × (sentBy a time sheet .answer ≡ sentHome)
+  pub sent-full : Full m → (sentBy a time sheet .message ≡ fullMessage m) × (sentBy a time sheet .answer ≡ sentHome)
   sent-full full =
       sent-cases (λ (s : Sent). (s .message ≡ fullMessage m) × (s .answer ≡ sentHome))
       (λ h. (refl, refl)) (λ h e. absurd (omega arith)) (λ h e. absurd (omega arith))
 
   -- with room, this router's block stands behind the message, and its code is the first that applies
-  module _ (room : length m + standardSize ≤ most) where
+  module _ (room : HasRoom m) where
     pub sent-block : part (length m) standardSize (sentBy a time sheet .message) ≡ blockBytes block
     sent-block =
         sent-cases (λ (s : Sent). part (length m) standardSize (s .message) ≡ blockBytes block)
         (λ h. absurd (omega arith)) (λ h e. longer-block reply m block) (λ h e. longer-block request m block)
 
-    pub sent-code : byteAt (sentBy a time sheet .message) (length m + codeOffset) ≡ codeOf (testsOf view)
+    pub sent-code : byteAt (sentBy a time sheet .message) (length m + codeOffset) ≡ codeOf view
     unfolding blockOf
     sent-code =
-        sent-cases (λ (s : Sent). byteAt (s .message) (length m + codeOffset) ≡ codeOf (testsOf view))
+        sent-cases (λ (s : Sent). byteAt (s .message) (length m + codeOffset) ≡ codeOf view)
         (λ h. absurd (omega arith)) (λ h e. longer-code reply m block) (λ h e. longer-code request m block)
 
-    pub sent-code-is-first : Noted (results (testsOf view)) (byteAt (sentBy a time sheet .message) (length m + codeOffset))
-    sent-code-is-first = rw sent-code (code-is-first (testsOf view))
+    pub sent-code-is-first : Noted (codes view) (byteAt (sentBy a time sheet .message) (length m + codeOffset))
+    sent-code-is-first = rw sent-code (noted (codes view))
 
   -- without a route the trace ends, also where WRONG_LAST_HOP hides NO_ROUTE
   module _ (none : routeFor sheet (headerOf m) ≡ Nothing) where
@@ -146,11 +158,11 @@ module _ (a : Arrival) (time : ℕ) (sheet : List ℕ) where
     unfolding viewWith
     no-route-home =
         sent-cases (λ (s : Sent). s .answer ≡ sentHome) (λ h. refl) (λ h e. refl)
-        (λ h e. let z : _≡_ {A = Bool} true false = sym (no-route-ends view (standardCount m + 1) (headerOf m .hops) none) ∙ e in
+        (λ h e. let z : _≡_ {A = Bool} true false = sym (no-route-ends view (hopsUsed m + 1) (headerOf m .hops) none) ∙ e in
         let w : _≡_ {A = ℕ} 0 1 = cc in absurd (omega arith))
 
-    pub hidden-no-route-home : length m + standardSize ≤ most → wrongLastHop view ≡ true
-        → (byteAt (sentBy a time sheet .message) (length m + codeOffset) ≡ 6) × (sentBy a time sheet .answer ≡ sentHome)
+    pub hidden-no-route-home : HasRoom m → wrongLastHop view ≡ true
+        → (byteAt (sentBy a time sheet .message) (length m + codeOffset) ≡ codeWrongLastHop) × (sentBy a time sheet .answer ≡ sentHome)
     unfolding viewWith
     hidden-no-route-home room wrong = (sent-code room ∙ hidden-no-route view none wrong, no-route-home)
 
@@ -159,19 +171,13 @@ module _ (a : Arrival) (time : ℕ) (sheet : List ℕ) where
     pub sent-fits : length (sentBy a time sheet .message) ≤ most
     sent-fits =
         sent-cases (λ (s : Sent). length (s .message) ≤ most)
-        (λ h. rw (length-set (set m 0 reply) (lastStandard m + codeOffset) noSpace, length-set m 0 reply) (accepts .high))
+        (λ h. rw (length-set (set m 0 reply) (lastStandard m + codeOffset) codeNoSpace, length-set m 0 reply) (accepts .high))
         (λ h e. rw (longer-length reply m block) h) (λ h e. rw (longer-length request m block) h)
 
-    pub sent-blocks : length m + standardSize ≤ most → standardCount (sentBy a time sheet .message) ≡ standardCount m + 1
+    pub sent-blocks : HasRoom m → standardCount (sentBy a time sheet .message) ≡ standardCount m + 1
     sent-blocks room =
         sent-cases (λ (s : Sent). standardCount (s .message) ≡ standardCount m + 1)
         (λ h. absurd (omega arith)) (λ h e. longer-blocks reply m block accepts) (λ h e. longer-blocks request m block accepts)
 
-    pub sent-full-blocks : most < length m + standardSize → standards (sentBy a time sheet .message) ≡ standards m
+    pub sent-full-blocks : Full m → standards (sentBy a time sheet .message) ≡ standards m
     sent-full-blocks full = rw (sent-full full .0) (full-standards m accepts full)
-
--- an accepted message is answered
-pub accepted-is-answered : (a : Arrival) (time : ℕ) (sheet recent output note : List ℕ) → dropOf a sheet recent (length output) (length note) ≡ 0
-    → (stepOf a time sheet recent output note .answer ≡ sentOn) ⊎ (stepOf a time sheet recent output note .answer ≡ sentHome)
-accepted-is-answered a time sheet recent output note none =
-    rw (taken-is-sent a time sheet recent output note none) (sent-answer a time sheet)

@@ -1,0 +1,8 @@
+-- The laws of one router's step that other crates cite.
+
+-- a drop returns its number and changes nothing lent; anything else is answered by what is sent
+pub use Rattle.engine.proofs.Sent.{drop-changes-nothing, taken-is-sent}
+-- what is sent: without room, home, or on
+pub use Rattle.engine.proofs.Sent.{sent-cases, sent-answer, sent-begins, sent-full, sent-block, sent-code, sent-code-is-first, no-route-home, hidden-no-route-home, sent-fits, sent-blocks, sent-full-blocks, longer-as, longer-blocks, longer-block, longer-begins, full-standards, block-standard}
+-- what is sent on has one block more, and the router that it reaches does not drop it
+pub use Rattle.engine.proofs.On.{blocks-below-hops, Grown, sent-on-grows, sent-to, sent-noted, no-later-drop}
