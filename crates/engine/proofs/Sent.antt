@@ -22,7 +22,8 @@ use Rattle.response.specs.Bytes.{blockBytes}
 use Rattle.response.proofs.Laws.{block-length, no-route-ends, hidden-no-route}
 use Rattle.message.specs.Format.{most, request, reply, standardSize, codeOffset}
 use Rattle.message.specs.Header.{headerOf}
-use Rattle.message.specs.Blocks.{standards, standardCount, lastStandard, StandardBlock}
+use Rattle.message.specs.Blocks.{standards, standardCount, lastStandard}
+use Rattle.message.specs.Inside.{StandardBlock}
 use Rattle.message.proofs.Laws.{Accepted, full-has-standard, typed-standards, coded-standards, sent-count}
 use Rattle.drops.specs.Arrival.{Arrival, routeFor}
 use Rattle.message.specs.Room.{isFull, Full, HasRoom, hopsUsed}
