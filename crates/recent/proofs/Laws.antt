@@ -15,7 +15,7 @@ use Rattle.wire.specs.Numbers.{byteAt, be, bytes32, bytes16}
 use Rattle.wire.specs.Parts.{splice, allZero}
 use Rattle.rows.proofs.Tests.{both-of, one-of, parts}
 use Rattle.wire.proofs.Laws.{length-bytes, length-splice, byte-before, byte-after, be-after, be-within, be-first, be-second, be-bytes, drop-splice, splice-front}
-use Rattle.recent.specs.Layout.{clientSize, entrySize, entryCount, listSize, used, next, recentPlace, wellFormed}
+use Rattle.recent.specs.Layout.{headSize, clientSize, entrySize, entryCount, listSize, used, next, recentPlace, wellFormed}
 use Rattle.recent.specs.Inside.{Formed}
 use Rattle.recent.specs.Entries.{recentEntry, firstEntries, isOf, someIsOf, seenIn, grown, movedOn, enteredIn, empty}
 use Rattle.recent.proofs.Turns.{entry-fits}
@@ -76,6 +76,7 @@ found-at s client id k zero h e = absurd (omega arith)
 found-at s client id k (suc n) h e =
     ⊎-elim (λ q. rw (← q, e)) (λ l. rw (found-at s client id k n l e) (or-true (isOf (recentEntry s n) client id))) (eq-or-lt-of-le {n = k} {m = n} (omega arith))
 
+-- a Query entered: its entry is written, and then the head
 module _ (s : List ℕ) (f : Formed s) (client id : ℕ) where
   abbrev entry : List ℕ
   entry = bytes32 client ++ bytes16 id
@@ -83,22 +84,25 @@ module _ (s : List ℕ) (f : Formed s) (client id : ℕ) where
   abbrev written : List ℕ
   written = splice s (recentPlace (next s)) entry
 
+  abbrev head : List ℕ
+  head = grown (used s) ∷ movedOn (next s) ∷ []
+
   length-entry : length entry ≡ entrySize
   length-entry = length-append (bytes32 client) (bytes16 id) ∙ omega (arith, length-bytes 2 client, length-bytes 1 id)
 
   length-written : length written ≡ listSize
   length-written = length-splice s (recentPlace (next s)) entry (entry-fits s f client id) ∙ f .whole
 
-  head-fits : 0 + length (grown (used s) ∷ movedOn (next s) ∷ []) ≤ length written
+  head-fits : 0 + length head ≤ length written
   head-fits = rw length-written (lit≤ tt)
 
   entered-is : enteredIn s client id ≡ grown (used s) ∷ movedOn (next s) ∷ drop 2 written
   unfolding enteredIn
-  entered-is = splice-front written (grown (used s) ∷ movedOn (next s) ∷ [])
+  entered-is = splice-front written head
 
   length-entered : length (enteredIn s client id) ≡ listSize
   unfolding enteredIn
-  length-entered = length-splice written 0 (grown (used s) ∷ movedOn (next s) ∷ []) head-fits ∙ length-written
+  length-entered = length-splice written 0 head head-fits ∙ length-written
 
   entered-formed : Formed (enteredIn s client id)
   entered-formed = record { whole = length-entered; few = rw entered-is (omega arith); within = rw entered-is (omega arith) }
@@ -109,17 +113,17 @@ module _ (s : List ℕ) (f : Formed s) (client id : ℕ) where
   -- the bytes behind the head are those of the list with the entry written
   byte-kept : (j : ℕ) → 2 ≤ j → byteAt (enteredIn s client id) j ≡ byteAt written j
   unfolding enteredIn
-  byte-kept j h = byte-after written 0 (grown (used s) ∷ movedOn (next s) ∷ []) head-fits j h
+  byte-kept j h = byte-after written 0 head head-fits j h
 
   drop-kept : (n : ℕ) → drop (2 + n) (enteredIn s client id) ≡ drop (2 + n) written
   unfolding enteredIn
   drop-kept n =
-      rw (← drop-drop n 2 (enteredIn s client id), drop-splice written 0 (grown (used s) ∷ movedOn (next s) ∷ []) head-fits)
+      rw (← drop-drop n 2 (enteredIn s client id), drop-splice written 0 head head-fits)
       (drop-drop n 2 written)
 
   be-kept : (d j : ℕ) → 2 ≤ j → be d (enteredIn s client id) j ≡ be d written j
   unfolding enteredIn
-  be-kept d j h = be-after written 0 (grown (used s) ∷ movedOn (next s) ∷ []) head-fits d j h
+  be-kept d j h = be-after written 0 head head-fits d j h
 
   -- the entry as it is read back
   read-back : (d j : ℕ) → j + 2 ^ d ≤ entrySize → be d (enteredIn s client id) (recentPlace (next s) + j) ≡ be d entry j
@@ -175,13 +179,14 @@ module _ (s : List ℕ) (e : wellFormed s ≡ true) (client id : ℕ) where
   entered-well-formed =
       let r = rules s e in
       let f = formed s e in
-      let before = byte-before s (recentPlace (next s)) (bytes32 client ++ bytes16 id) (entry-fits s f client id) in
+      let kept : (j : ℕ) → 2 ≤ j → j < headSize → byteAt (enteredIn s client id) j ≡ byteAt s j =
+      λ j h l. byte-kept s f client id j h ∙ byte-before s (recentPlace (next s)) (bytes32 client ++ bytes16 id) (entry-fits s f client id) j (omega arith) in
       by-rules (enteredIn s client id)
       (record {
         sizes = entered-formed s f client id;
         follows = rw (entered-is s f client id) (follows-on (used s) (next s) (f .within) (r .follows));
-        third = byte-kept s f client id 2 (lit≤ tt) ∙ before 2 (omega arith) ∙ r .third;
-        fourth = byte-kept s f client id 3 (lit≤ tt) ∙ before 3 (omega arith) ∙ r .fourth;
+        third = kept 2 (lit≤ tt) (lit≤ tt) ∙ r .third;
+        fourth = kept 3 (lit≤ tt) (lit≤ tt) ∙ r .fourth;
         rest = rw (used-entered s f client id) rest-zero;
       })
 
