@@ -19,6 +19,10 @@ use Rattle.message.specs.Blocks.{standardCount}
 use Rattle.message.specs.Check.{numberOf}
 use Rattle.drops.specs.Arrival.{Arrival, isQuery, isRequest, lastHopFor}
 
+-- the number of the row ROOM
+abbrev pub dropRoom : ℕ
+dropRoom = 1
+
 -- bytes of an answer record
 abbrev pub noteSize : ℕ
 noteSize = 16
