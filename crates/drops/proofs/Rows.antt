@@ -8,7 +8,8 @@ use lib.ListN.{length}
 use borrow.Author.Tests.{eq-eqb, ne-eqb, not-false}
 use Rattle.wire.specs.Addresses.{linkScoped}
 use Rattle.rows.proofs.Tests.{passed}
-use Rattle.recent.specs.Layout.{wellFormed, Formed}
+use Rattle.recent.specs.Layout.{wellFormed}
+use Rattle.recent.specs.Inside.{Formed}
 use Rattle.recent.proofs.Laws.{formed}
 use Rattle.sheet.specs.declared.layout.Layout.{Layout}
 use Rattle.sheet.specs.declared.tables.Found.{Found}
