@@ -1,10 +1,10 @@
--- A clock over a list of readings: the clock it comes to, and the times it issues.
-use Prim.Native.Nat.{ℕ, _≤_}
+-- A clock over a list of readings: the clock it comes to, the times it issues, and what the laws say of both.
+use Prim.Native.Nat.{ℕ, _*_, _-_, _≤_}
 use mathlib.Core.Bool.{cond}
 use mathlib.Core.List.{List, [], _∷_}
 use lib.Dec.{eqb}
 use Rattle.clock.specs.declared.Clock.{Clock}
-use Rattle.clock.specs.Clock.{last, advanceOf}
+use Rattle.clock.specs.Clock.{lastTime, advanceOf}
 
 -- the clock after a list of readings; a refused reading leaves it as it was
 unfoldable pub after : Clock → List ℕ → Clock
@@ -27,12 +27,17 @@ issues c (t ∷ ts) =
 -- a clock as starting and advancing make it: the last issued time is at least the last reading, and in range
 pub record Sound (c : Clock) : Type 0 where
   pub leads : c .r ≤ c .y
-  pub within : c .y ≤ last
+  pub within : c .y ≤ lastTime
 
 -- readings that do not fall, from r on, all in range
 abbrev pub Rising : ℕ → List ℕ → Type 0
 Rising r [] = Unit {0}
-Rising r (t ∷ ts) = (r ≤ t) × (t ≤ last) × Rising t ts
+Rising r (t ∷ ts) = (r ≤ t) × (t ≤ lastTime) × Rising t ts
+
+-- a clock and a later one, between which readings advanced by D in all: a lead e has shrunk to at most the larger of 0 and
+-- e - D/2, said of twice the lead
+abbrev pub Shrunk : Clock → Clock → Type 0
+Shrunk c later = (c .r ≤ later .r) × (2 * (later .y - later .r) ≤ 2 * (c .y - c .r) - (later .r - c .r))
 
 -- times that never fall below y or below one another, each at least its reading
 abbrev pub NeverFall : ℕ → List Issue → Type 0

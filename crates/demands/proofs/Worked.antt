@@ -7,7 +7,8 @@ use mathlib.Core.Path.{_≡_, refl}
 use lib.Dec.{eqb}
 use lib.ListN.{length}
 use Rattle.wire.specs.Numbers.{byteAt, be, be32, bytes}
-use Rattle.wire.specs.Parts.{splice}
+use Rattle.wire.specs.Parts.{splice, allZero}
+use Rattle.rows.specs.Rows.{byFirst}
 use Rattle.clock.specs.Clock.{timeFor, startOf, advanceOf, arrivalOf}
 use Rattle.clock.specs.Unix.{unixOf}
 use Rattle.clock.specs.Readings.{Issue, issues}
@@ -28,7 +29,7 @@ use Rattle.response.specs.Bytes.{blockBytes}
 use Rattle.message.specs.Header.{headerOf}
 use Rattle.message.specs.Blocks.{fitsIn, begins, blocksBy, blocksFrom, blocksOf, totalSize, standardPlaces, lastOr, standards, standardCount, blocksEnd, standardFirst, fillsMessage, rightForm}
 use Rattle.message.specs.Check.{firstRow, numberOf}
-use Rattle.recent.specs.Layout.{allZero, wellFormed}
+use Rattle.recent.specs.Layout.{wellFormed}
 use Rattle.recent.specs.Entries.{empty, firstEntries, someIsOf, seenIn}
 use Rattle.drops.specs.Arrival.{routeFor, lastHopFor}
 use Rattle.drops.specs.Drop.{lendingRow, deliveryRow, routeRow, dropOf}
@@ -95,7 +96,7 @@ examples =
 
 -- all that the examples compute with, layer by layer
 unfoldable opened : ℕ
-unfolding be bytes splice carried sumFrom sumOk zeros frameOk hosts samePrefix zeroPast interfaceAt interfaceOk routeAt routeOk every listed blockOk interfaceBlocksIn interfaceBlocks entriesIn interfacesIn routesIn blockOkAt validSheet counted layoutOf interfaceOf routeOf interfacesOf routesOf prohibitedOf holderFrom holderOf servesBoth servesGroup servesSource longer longestBy orElse whichRoute reaches someReaches properLastHop testsOf codeOf filledOf blockOf endsTrace blockBytes headerOf fitsIn begins blocksBy blocksFrom blocksOf totalSize standardPlaces lastOr standards blocksEnd standardFirst fillsMessage rightForm firstRow numberOf allZero wellFormed empty firstEntries someIsOf seenIn routeFor lastHopFor lendingRow deliveryRow routeRow dropOf incomingFor viewWith longerMessage longerAnswer sentBy sheetAt yardOk lowestFrom holderIn sentFor endOf walkBy walkFrom walkOf block yard query trace issues startOf advanceOf timeFor unixOf examples
+unfolding be bytes splice carried sumFrom sumOk zeros frameOk hosts samePrefix zeroPast interfaceAt interfaceOk routeAt routeOk every listed blockOk interfaceBlocksIn interfaceBlocks entriesIn interfacesIn routesIn blockOkAt validSheet counted layoutOf interfaceOf routeOf interfacesOf routesOf prohibitedOf holderFrom holderOf servesBoth servesGroup servesSource longer longestBy orElse whichRoute reaches someReaches properLastHop testsOf codeOf filledOf blockOf endsTrace blockBytes headerOf fitsIn begins blocksBy blocksFrom blocksOf totalSize standardPlaces lastOr standards blocksEnd standardFirst fillsMessage rightForm firstRow numberOf allZero wellFormed empty firstEntries someIsOf seenIn routeFor lastHopFor lendingRow deliveryRow routeRow dropOf incomingFor viewWith longerMessage longerAnswer sentBy sheetAt yardOk lowestFrom holderIn sentFor endOf walkBy walkFrom walkOf block yard query trace issues byFirst startOf advanceOf timeFor unixOf examples
 opened = 0
 
 pub worked : failing examples ≡ []

@@ -7,7 +7,8 @@ use native.Mathlib.Omega.{arith}
 use lib.Dec.{eqb}
 use borrow.Author.Tests.{eq-eqb, ne-eqb, not-false}
 use Rattle.wire.specs.Addresses.{linkScoped}
-use Rattle.recent.specs.Layout.{wellFormed, Formed}
+use Rattle.recent.specs.Layout.{wellFormed}
+use Rattle.recent.specs.Inside.{Formed}
 use Rattle.recent.proofs.Laws.{formed}
 use Rattle.sheet.specs.declared.layout.Layout.{Layout}
 use Rattle.sheet.specs.declared.tables.Found.{Found}

@@ -6,7 +6,7 @@ use sheet::Layout;
 ghost use mathlib.Core.Path.{_≡_};
 ghost use mathlib.Core.Bool.{true, _&&_, _||_};
 ghost use Rattle.wire.specs.Addresses.{linkScoped};
-ghost use Rattle.recent.specs.Layout.{Formed};
+ghost use Rattle.recent.specs.Inside.{Formed};
 ghost use Rattle.recent.specs.Entries.{seenIn};
 ghost use Rattle.sheet.specs.Sheet.{layoutOf};
 ghost use Rattle.sheet.specs.Tables.{holderOf};

@@ -5,7 +5,7 @@ use mathlib.Core.Bool.{cond}
 use mathlib.Core.List.{List}
 use mathlib.Core.Path.{_≡_}
 use lib.ListN.{length}
-use Rattle.recent.specs.Layout.{Formed}
+use Rattle.recent.specs.Inside.{Formed}
 use Rattle.sheet.specs.Sheet.{mostInterfaces, layoutOf}
 use Rattle.sheet.specs.Tables.{interfaceOf}
 use Rattle.response.specs.declared.View.{View}

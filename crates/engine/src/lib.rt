@@ -11,7 +11,7 @@ ghost use mathlib.Core.Path.{_≡_};
 ghost use Prim.Native.Nat.{_+_, _≤_, _<_};
 ghost use lib.ListN.{length, set};
 ghost use Rattle.wire.specs.Parts.{splice};
-ghost use Rattle.recent.specs.Layout.{Formed};
+ghost use Rattle.recent.specs.Inside.{Formed};
 ghost use Rattle.sheet.specs.Sheet.{layoutOf};
 ghost use Rattle.response.specs.Code.{codeNoSpace};
 ghost use Rattle.message.specs.Format.{most, reply, standardSize, codeOffset};

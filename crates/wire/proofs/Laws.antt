@@ -13,6 +13,10 @@ use lib.Seq.{take-at, drop-at, drop-drop, getD-take, getD-drop, getD-append-add,
 use Rattle.wire.specs.Numbers.{byteAt, be, bytes}
 use Rattle.wire.specs.Parts.{part, splice}
 
+-- two things equal to a third
+pub both-are : {A : Type 0} {x a b : A} → a ≡ x → b ≡ x → a ≡ b
+both-are p q = p ∙ sym q
+
 -- the powers that widths bring
 double : (d : ℕ) → 2 ^ suc d ≡ 2 ^ d + 2 ^ d
 double d = omega (arith, pow-suc 2 d)
