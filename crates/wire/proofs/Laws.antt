@@ -8,8 +8,8 @@ use native.Mathlib.Nat.{add-assoc, zero-add, add-zero, pow-suc, mod-lt, div-add-
 use native.Mathlib.Numerals.{add-one}
 use lib.Pow.{pow-add}
 use lib.Dec.{lit≤}
-use lib.ListN.{length, take, drop, set, length-append, length-drop, length-set, List·getD-eq-default, List·getD-append}
-use lib.Seq.{take-at, drop-at, drop-drop, getD-take, getD-drop, getD-append-add, length-take-le, sets-eq, paste, paste-suc, take-append-seam, take-length}
+use lib.ListN.{length, take, drop, set, length-append, length-drop, length-set, List·getD-append}
+use lib.Seq.{take-at, drop-at, drop-drop, getD-take, getD-drop, getD-append-add, length-take-le, sets-eq, paste, paste-suc, take-length}
 use Rattle.wire.specs.Numbers.{byteAt, be, bytes}
 use Rattle.wire.specs.Parts.{part, splice}
 
@@ -36,12 +36,6 @@ length-bytes-front d v = omega (arith, length-bytes d v)
 bytes-halves : (d v : ℕ) → bytes (suc d) v ≡ bytes d (v / 256 ^ (2 ^ d)) ++ bytes d (v % 256 ^ (2 ^ d))
 unfolding bytes
 bytes-halves d v = refl
-
--- a number past the end is 0
-pub be-past : (d : ℕ) (s : List ℕ) (at : ℕ) → length s ≤ at → be d s at ≡ 0
-unfolding be
-be-past zero s at h = List·getD-eq-default s 0 h
-be-past (suc d) s at h = rw (be-past d s at h, be-past d s (at + 2 ^ d) (omega arith)) (omega arith)
 
 -- two lists that agree on the bytes of a number hold the same number
 pub be-same : (d : ℕ) (s t : List ℕ) (i j : ℕ) → ((k : ℕ) → k < 2 ^ d → byteAt s (i + k) ≡ byteAt t (j + k)) → be d s i ≡ be d t j
@@ -104,10 +98,7 @@ module _ (s : List ℕ) (at : ℕ) (xs : List ℕ) (fits : at + length xs ≤ le
       ∙ getD-append-add (take at s ++ xs) (drop (at + length xs) s) k 0
       ∙ getD-drop (at + length xs) s k 0)
 
-  -- the number before, within and after it
-  pub be-before : (d j : ℕ) → j + 2 ^ d ≤ at → be d (splice s at xs) j ≡ be d s j
-  be-before d j h = be-same d (splice s at xs) s j j (λ k l. byte-before (j + k) (omega arith))
-
+  -- the number within and after it
   pub be-within : (d j : ℕ) → j + 2 ^ d ≤ length xs → be d (splice s at xs) (at + j) ≡ be d xs j
   be-within d j h =
       be-same d (splice s at xs) xs (at + j) j (λ k l. rw add-assoc (byte-within (j + k) (omega arith)))
@@ -115,14 +106,8 @@ module _ (s : List ℕ) (at : ℕ) (xs : List ℕ) (fits : at + length xs ≤ le
   pub be-after : (d j : ℕ) → at + length xs ≤ j → be d (splice s at xs) j ≡ be d s j
   be-after d j h = be-same d (splice s at xs) s j j (λ k l. byte-after (j + k) (omega arith))
 
-  -- the part itself, and what is taken up to its end
-  pub part-splice : part at (length xs) (splice s at xs) ≡ xs
-  unfolding splice
-  part-splice =
-      rw (append-assoc, drop-at (take at s) (xs ++ drop (at + length xs) s) at length-front)
-      (take-append-seam xs (drop (at + length xs) s))
-
-  pub take-splice : take (at + length xs) (splice s at xs) ≡ take at s ++ xs
+  -- what is taken up to its end, and what is left behind it
+  take-splice : take (at + length xs) (splice s at xs) ≡ take at s ++ xs
   unfolding splice
   take-splice = take-at (take at s ++ xs) (drop (at + length xs) s) (at + length xs) length-head
 

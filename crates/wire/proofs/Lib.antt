@@ -1,3 +1,3 @@
--- Laws that this crate's proofs and the crates above cite.
+-- Laws that the crates above cite; and `Determined`: each promise leaves one answer.
 pub mod Laws
 pub mod Determined

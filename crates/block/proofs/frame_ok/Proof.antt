@@ -1,6 +1,7 @@
 -- `frame_ok`: the entries in use end at a word; the plain sums on both sides of it say what the definition asks.
 use borrow.Author.Needs.{needs}
-use Rattle.block.proofs.Frames.{room, over-full, framed}
+use Rattle.block.proofs.Laws.{room}
+use Rattle.block.proofs.Frames.{over-full, framed}
 use Rattle.block.proofs.frame_ok.Statement.{statement}
 use Rattle.block.proofs.frame_ok.Tie as tie
 

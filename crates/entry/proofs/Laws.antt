@@ -9,46 +9,29 @@ use Rattle.wire.specs.Addresses.{unicast, allOnes}
 use Rattle.rows.proofs.Tests.{both-of, one-of, parts}
 use Rattle.entry.specs.declared.interface.Interface.{Interface}
 use Rattle.entry.specs.declared.route.Route.{Route}
-use Rattle.entry.specs.Prefix.{zeroPast}
+use Rattle.entry.specs.Prefix.{addressBits}
 use Rattle.entry.specs.Interface.{interfaceOk}
-use Rattle.entry.specs.Route.{groupOnly, unknown, kindOk, lengthOk, groupOk, incomingOk, upstreamOk, mapOk, routeOk}
+use Rattle.entry.specs.Route.{groupOnly, unknown, incomingOk, upstreamOk, routeOk}
 
-pub record InterfaceKept (i : Interface) : Type 0 where
-  pub address : unicast (i .address) ≡ true
-  pub some : 1 ≤ i .length
-  pub short : i .length ≤ 32
-
-pub interface-kept : (i : Interface) → interfaceOk i ≡ true → InterfaceKept i
+-- an interface's prefix is no longer than an address
+pub interface-short : (i : Interface) → interfaceOk i ≡ true → i .length ≤ addressBits
 unfolding interfaceOk
-interface-kept i e =
-    record {
-      address = search parts depth 16;
-      some = leb-true 1 (i .length) (search parts depth 16);
-      short = leb-true (i .length) 32 (search parts depth 16);
-    }
+interface-short i e = leb-true (i .length) addressBits (search parts depth 16)
 
+-- a route among so many interfaces
 pub record RouteKept (interfaces : ℕ) (r : Route) : Type 0 where
-  pub kind : kindOk (r .kind) ≡ true
-  pub short : r .length ≤ 32
+  pub short : r .length ≤ addressBits
   pub whole : r .kind ≡ groupOnly → r .length ≡ 0
-  pub source : zeroPast (r .length) (r .source) ≡ true
-  pub group : groupOk (r .kind) (r .group) ≡ true
   pub incoming : (r .incoming < interfaces) ⊎ (r .incoming ≡ unknown)
   pub upstream : (r .upstream ≡ 0) ⊎ ((r .incoming ≡ unknown → ⊥) × ((unicast (r .upstream) ≡ true) ⊎ (allOnes (r .upstream) ≡ true)))
-  pub forward : mapOk interfaces (r .forward) ≡ true
 
 pub route-kept : (interfaces : ℕ) (r : Route) → routeOk interfaces r ≡ true → RouteKept interfaces r
 unfolding routeOk
 route-kept interfaces r e =
-    let length : lengthOk (r .kind) (r .length) ≡ true = search parts depth 16 in
     let incoming : incomingOk interfaces (r .incoming) ≡ true = search parts depth 16 in
     let upstream : upstreamOk (r .incoming) (r .upstream) ≡ true = search parts depth 16 in
     record {
-      kind = search parts depth 16;
-      source = search parts depth 16;
-      group = search parts depth 16;
-      forward = search parts depth 16;
-      short = leb-true (r .length) 32 (search parts depth 16);
+      short = leb-true (r .length) addressBits (search parts depth 16);
       whole =
           λ k.
           ⊎-elim (λ h. eqb-true (r .length) 0 h) (λ h. absurd (eqb-false (r .kind) groupOnly (not-true (eqb (r .kind) groupOnly) h) k))
