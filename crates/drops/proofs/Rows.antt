@@ -11,8 +11,8 @@ use Rattle.recent.specs.Layout.{wellFormed}
 use Rattle.recent.specs.Inside.{Formed}
 use Rattle.recent.proofs.Laws.{formed}
 use Rattle.sheet.specs.declared.layout.Layout.{Layout}
-use Rattle.sheet.specs.declared.tables.Found.{Found}
-use Rattle.sheet.specs.declared.tables.Found.the-variants.{At, Nothing}
+use Rattle.sheet.specs.declared.tables.Holding.{Holding}
+use Rattle.sheet.specs.declared.tables.Holding.the-variants.{At, Nowhere}
 use Rattle.sheet.specs.Sheet.{layoutOf}
 use Rattle.sheet.specs.Tables.{interfaceOf, routesOf, holderOf}
 use Rattle.route.specs.declared.Chosen.{Chosen}
@@ -36,10 +36,10 @@ use Rattle.drops.specs.Drop.{dropState, dropLastHop, dropNoPrev, isHeld,
 use Rattle.drops.specs.Inside.{dropVerdict, passVerdict, routedOf, verdictOf}
 
 -- an interface holds the address, or none does
-pub held-at : (s : List ℕ) (address i : ℕ) (found : Found) → found ≡ holderOf s address → found ≡ At i → true ≡ isHeld (holderOf s address)
+pub held-at : (s : List ℕ) (address i : ℕ) (found : Holding) → found ≡ holderOf s address → found ≡ At i → true ≡ isHeld (holderOf s address)
 held-at s address i found e f = rw (← e, f)
 
-pub held-not : (s : List ℕ) (address : ℕ) (found : Found) → found ≡ holderOf s address → found ≡ Nothing → false ≡ isHeld (holderOf s address)
+pub held-not : (s : List ℕ) (address : ℕ) (found : Holding) → found ≡ holderOf s address → found ≡ Nowhere → false ≡ isHeld (holderOf s address)
 held-not s address found e f = rw (← e, f)
 
 -- only a Query is looked for in the recent list

@@ -9,8 +9,8 @@ use Rattle.wire.specs.Addresses.{linkScoped}
 use Rattle.recent.specs.Layout.{wellFormed}
 use Rattle.recent.specs.Entries.{seenIn}
 use Rattle.sheet.specs.declared.layout.Layout.{Layout}
-use Rattle.sheet.specs.declared.tables.Found.{Found}
-use Rattle.sheet.specs.declared.tables.Found.the-variants.{At, Nothing}
+use Rattle.sheet.specs.declared.tables.Holding.{Holding}
+use Rattle.sheet.specs.declared.tables.Holding.the-variants.{At, Nowhere}
 use Rattle.sheet.specs.Sheet.{layoutOf}
 use Rattle.sheet.specs.Tables.{holderOf}
 use Rattle.message.specs.declared.Header.{Header}
@@ -65,9 +65,9 @@ abbrev pub nearTtl : ℕ
 nearTtl = 255
 
 -- an interface holds the address
-abbrev pub isHeld : Found → Bool
+abbrev pub isHeld : Holding → Bool
 isHeld (At i) = true
-isHeld Nothing = false
+isHeld Nowhere = false
 
 -- what the host lends with the call
 unfoldable pub lendingRows : ℕ → ℕ → List ℕ → Layout → ℕ → List Row

@@ -71,23 +71,23 @@ fn lending_row(output: usize, note: usize, recent: &[u8], layout: Layout, receiv
 }
 
 // Whether an interface of a valid sheet holds an address.
-fn is_held(sheet: &[u8], layout: Layout, address: u32) -> bool
-    requires { ⌜ layout ≡ layoutOf (now sheet) ⌝ }
+fn is_held(sheet: &[u8], interfaces: usize, address: u32) -> bool
+    requires { ⌜ interfaces ≡ layoutOf (now sheet) .interfaces ⌝ }
     ensures { λ r. ⌜ r ≡ isHeld (holderOf (now (sheet .entry)) address) ⌝ }
 {
-    let found = sheet::holder(sheet, layout, address);
+    let found = sheet::holder(sheet, interfaces, address);
     match found {
-        sheet::Found::At(_) => true,
-        sheet::Found::Nothing => false,
+        sheet::Holding::At(_) => true,
+        sheet::Holding::Nowhere => false,
     }
 }
 
 // DEST does not apply: the destination is an interface address here, or in 224.0.0.0/24.
-fn is_delivered(sheet: &[u8], layout: Layout, destination: u32) -> bool
-    requires { ⌜ layout ≡ layoutOf (now sheet) ⌝ }
+fn is_delivered(sheet: &[u8], interfaces: usize, destination: u32) -> bool
+    requires { ⌜ interfaces ≡ layoutOf (now sheet) .interfaces ⌝ }
     ensures { λ r. ⌜ r ≡ (isHeld (holderOf (now (sheet .entry)) destination) || linkScoped destination) ⌝ }
 {
-    is_held(sheet, layout, destination) | wire::link_scoped(destination)
+    is_held(sheet, interfaces, destination) | wire::link_scoped(destination)
 }
 
 // A Query whose client and id are in a well-formed recent list.
@@ -115,7 +115,7 @@ fn delivery_row(
     requires { ⌜ Formed (now recent) ⌝ }
     ensures { λ r. ⌜ r ≡ firstOf (deliveryRows (now (sheet .entry)) (now (recent .entry)) h used destination ttl) ⌝ }
 {
-    if !is_delivered(sheet, layout, destination) {
+    if !is_delivered(sheet, layout.interfaces, destination) {
         return DROP_DEST;
     }
     if (h.kind == message::REQUEST) & (ttl != NEAR_TTL) {

@@ -16,10 +16,9 @@ use Rattle.recent.specs.Entries.{empty}
 use Rattle.recent.proofs.Laws.{empty-well-formed}
 use Rattle.entry.specs.Route.{isRp}
 use Rattle.entry.specs.declared.route.Route.{Route}
-use Rattle.sheet.specs.declared.tables.Found.the-variants.{At}
+use Rattle.sheet.specs.declared.tables.Holding.the-variants.{At}
 use Rattle.sheet.specs.Tables.{routesOf, holderOf}
-use Rattle.sheet.proofs.Entries.{valid-told, interface-valid}
-use Rattle.sheet.proofs.Holders.{holder-there}
+use Rattle.sheet.proofs.Laws.{valid-told, interface-valid, holder-there}
 use Rattle.route.specs.declared.Chosen.{Chosen}
 use Rattle.route.specs.declared.Chosen.the-variants.{Found, Nothing}
 use Rattle.route.specs.Choice.{whichRoute}

@@ -12,7 +12,7 @@ use Rattle.entry.specs.declared.interface.Interface.{Interface}
 use Rattle.entry.specs.declared.route.Route.{Route}
 use Rattle.sheet.specs.Sheet.{layoutOf}
 use Rattle.sheet.specs.Tables.{interfaceOf, prohibitedOf}
-use Rattle.sheet.proofs.Entries.{interface-valid, valid-told}
+use Rattle.sheet.proofs.Laws.{interface-valid, valid-told}
 use Rattle.route.specs.declared.Chosen.{Chosen}
 use Rattle.route.specs.declared.Chosen.the-variants.{Found, Nothing}
 use Rattle.response.specs.declared.Incoming.{Incoming}

@@ -10,7 +10,7 @@ use Rattle.entry.specs.declared.interface.Interface.{Interface}
 use Rattle.recent.proofs.Laws.{formed}
 use Rattle.sheet.specs.Sheet.{layoutOf}
 use Rattle.sheet.specs.Tables.{interfaceOf}
-use Rattle.sheet.proofs.Entries.{interface-few}
+use Rattle.sheet.proofs.Laws.{interface-few}
 use Rattle.route.specs.declared.Chosen.{Chosen}
 use Rattle.route.specs.declared.Chosen.the-variants.{Found, Nothing}
 use Rattle.route.proofs.Laws.{chosen-kept}

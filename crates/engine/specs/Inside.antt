@@ -6,7 +6,8 @@ use mathlib.Core.List.{List}
 use mathlib.Core.Path.{_≡_}
 use lib.ListN.{length}
 use Rattle.recent.specs.Inside.{Formed}
-use Rattle.sheet.specs.Sheet.{mostInterfaces, layoutOf}
+use Rattle.entry.specs.Interface.{mostInterfaces}
+use Rattle.sheet.specs.Sheet.{layoutOf}
 use Rattle.sheet.specs.Tables.{interfaceOf}
 use Rattle.response.specs.declared.View.{View}
 use Rattle.response.specs.Inside.{RouteFits}

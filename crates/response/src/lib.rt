@@ -6,8 +6,7 @@ use route::Chosen;
 ghost use mathlib.Core.Path.{_≡_};
 ghost use mathlib.Core.Bool.{cond};
 ghost use Prim.Native.Nat.{_+_, _≤_, _<_};
-ghost use Rattle.entry.specs.Interface.{isMulticast, isBoundary};
-ghost use Rattle.entry.specs.Route.{isRp, inMap};
+ghost use Rattle.entry.specs.Interface.{mostInterfaces};
 ghost use Rattle.route.specs.declared.Chosen.the-variants.{Found};
 ghost use Rattle.response.specs.View.{boundaryOn, addressOf, inputOf};
 ghost use Rattle.rows.specs.Rows.{firstOf};
@@ -92,81 +91,56 @@ pub struct Note {
     pub source: u32,
 }
 
-fn bit(map: u64, i: u32) -> bool
-    requires { ⌜ i < 64 ⌝ }
-    ensures { λ r. ⌜ r ≡ inMap map i ⌝ }
-{
-    (map >> i) % 2 == 1
-}
-
-fn multicast(i: Interface) -> bool
-    ensures { λ r. ⌜ r ≡ isMulticast i ⌝ }
-{
-    i.flags % 2 == 1
-}
-
-fn boundary(i: Interface) -> bool
-    ensures { λ r. ⌜ r ≡ isBoundary i ⌝ }
-{
-    i.flags / 2 % 2 == 1
-}
-
 fn boundary_on(i: Incoming) -> bool
     ensures { λ r. ⌜ r ≡ boundaryOn i ⌝ }
 {
     match i {
-        Incoming::Known(i) => boundary(i),
+        Incoming::Known(i) => entry::is_boundary(i),
         Incoming::Unknown => false,
     }
-}
-
-// Whether a route is RP.
-fn rp(r: Route) -> bool
-    ensures { λ ok. ⌜ ok ≡ isRp r ⌝ }
-{
-    r.flags % 2 == 1
 }
 
 fn in_scope(v: View) -> bool
     ensures { λ r. ⌜ r ≡ scoped v ⌝ }
 {
     let incoming = v.incoming;
-    (v.group / 16777216 == 239) & (boundary(v.here) | boundary_on(incoming))
+    (v.group / 16777216 == 239) & (entry::is_boundary(v.here) | boundary_on(incoming))
 }
 
 // The first code that applies where a route was chosen.
 fn code_on(v: View, r: Route) -> u8
-    requires { ⌜ v .number < 64 ⌝ }
+    requires { ⌜ v .number < mostInterfaces ⌝ }
     ensures { λ code. ⌜ code ≡ firstOf (codesFor v (Found r)) ⌝ }
 {
+    let number = v.number as usize;
     if v.query & !v.proper {
         return WRONG_LAST_HOP;
     }
-    if rp(r) {
+    if entry::is_rp(r) {
         return REACHED_RP;
     }
     if v.prohibited {
         return ADMIN_PROHIB;
     }
-    if !multicast(v.here) {
+    if !entry::is_multicast(v.here) {
         return NO_MULTICAST;
     }
     if v.number == r.incoming as u32 {
         return RPF_IF;
     }
-    if !bit(r.forward, v.number) {
+    if !entry::in_map(r.forward, number) {
         return WRONG_IF;
     }
     if in_scope(v) {
         return SCOPED;
     }
-    if r.flags / 2 % 2 == 1 {
+    if entry::prune_sent(r) {
         return PRUNE_SENT;
     }
-    if bit(r.pruned, v.number) {
+    if entry::in_map(r.pruned, number) {
         return PRUNE_RCVD;
     }
-    if bit(r.stopped, v.number) {
+    if entry::in_map(r.stopped, number) {
         return NOT_FORWARDING;
     }
     NO_ERROR
@@ -174,7 +148,7 @@ fn code_on(v: View, r: Route) -> u8
 
 // The first code that applies.
 fn code_of(v: View) -> u8
-    requires { ⌜ v .number < 64 ⌝ }
+    requires { ⌜ v .number < mostInterfaces ⌝ }
     ensures { λ code. ⌜ code ≡ codeOf v ⌝ }
 {
     let chosen = v.chosen;
@@ -295,7 +269,7 @@ fn fill(v: View) -> Filled
 
 // The block that a router appends.
 pub fn block_of(v: View) -> Block
-    requires { ⌜ (v .number < 64) × RouteFits (v .chosen) ⌝ }
+    requires { ⌜ (v .number < mostInterfaces) × RouteFits (v .chosen) ⌝ }
     ensures { λ b. ⌜ b ≡ blockOf v ⌝ }
 {
     let here = v.here;
@@ -315,7 +289,7 @@ pub fn ends_trace(v: View, used: u32, hops: u32) -> bool
 {
     let chosen = v.chosen;
     match chosen {
-        Chosen::Found(r) => v.prohibited | rp(r) | (r.upstream == 0) | (used == hops),
+        Chosen::Found(r) => v.prohibited | entry::is_rp(r) | (r.upstream == 0) | (used == hops),
         Chosen::Nothing => true,
     }
 }

@@ -3,7 +3,7 @@ use Prim.Native.Nat.{ℕ}
 use mathlib.Core.List.{List}
 use mathlib.Core.Path.{_≡_}
 use lib.ListN.{length}
-use Rattle.wire.proofs.Determined.{both-are}
+use Rattle.wire.proofs.Laws.{both-are}
 use Rattle.clock.specs.declared.Tick.{Tick}
 use Rattle.clock.specs.Clock.{clockOf, startOf, advanceOf, arrivalOf}
 use Rattle.clock.specs.Unix.{unixOf}
