@@ -16,7 +16,7 @@ use Rattle.clock.specs.declared.Tick.{Tick}
 use Rattle.clock.specs.declared.Units.{Units}
 use Rattle.clock.specs.Clock.{lastTime, clockOf, issued, refusedTick, timeFor, startRows, advanceRows, startOf, advanceOf}
 use Rattle.clock.specs.Unix.{clockUnix, unitsFor, unixRows, converted, refusedUnits, unixOf}
-use Rattle.clock.specs.Readings.{after, issues, Sound, Rising, Shrunk, NeverFall}
+use Rattle.clock.specs.Readings.{after, issues, Sound, Rising, Shrunk, NeverFall, afterBy, issuesBy}
 
 -- what holds of each way out of a table holds of what the table comes to
 by-rows : {A : Type 0} (P : A → Type 0) (given : ℕ → A) (other : A) (rs : List Row)
@@ -75,7 +75,7 @@ pub stays-sound : (c : Clock) (t : ℕ) → Sound c → Sound (advanceOf c t .cl
 stays-sound c t s = by-answer (λ (k : Tick). Sound (k .clock)) c t (λ n h. s) (time-leads c t)
 
 after-sound : (ts : List ℕ) (c : Clock) → Sound c → Sound (after c ts)
-unfolding after
+unfolding afterBy
 after-sound [] c s = s
 after-sound (t ∷ ts) c s = after-sound ts (advanceOf c t .clock) (stays-sound c t s)
 
@@ -85,7 +85,7 @@ always-sound t ts = after-sound ts (startOf t .clock) (starts-sound t)
 
 -- whatever the clock and the readings: the times issued never fall, and each is at least its reading
 pub issues-never-fall : (c : Clock) (ts : List ℕ) → NeverFall (c .y) (issues c ts)
-unfolding issues
+unfolding issuesBy
 issues-never-fall c [] = tt
 issues-never-fall c (t ∷ ts) =
     by-answer
@@ -102,7 +102,7 @@ chain r r1 r2 e e1 e2 h1 h2 p q = (omega arith, omega arith)
 
 -- while readings do not fall a lead shrinks at half rate
 pub lead-shrinks : (ts : List ℕ) (c : Clock) → Sound c → Rising (c .r) ts → Shrunk c (after c ts)
-unfolding after
+unfolding afterBy
 lead-shrinks [] c s u = (omega arith, omega arith)
 lead-shrinks (t ∷ ts) c s u =
     let next = clockOf t (timeFor c t) in

@@ -1,2 +1,3 @@
 -- x
 pub mod EngineMet
+pub mod ClockMet

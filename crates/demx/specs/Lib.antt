@@ -1,2 +1,3 @@
 -- x
 pub mod Engine
+pub mod Clock

@@ -1,0 +1,2 @@
+-- y
+pub mod Clock
