@@ -1,4 +1,4 @@
--- What is known of the route that is chosen: it is one of the sheet's, and keeps the rules.
+-- What is known of the route that is chosen: it is one of the sheet's, keeps the rules, and serves.
 use Prim.Native.Nat.{ℕ, _<_}
 use mathlib.Core.List.{List}
 use mathlib.Core.Path.{_≡_, refl, sym, _∙_}
@@ -7,15 +7,17 @@ use lib.Dec.{eqb}
 use borrow.Author.Tests.{eqb-false}
 use Rattle.rows.proofs.Tests.{cond-cases}
 use Rattle.entry.specs.declared.route.Route.{Route}
-use Rattle.entry.proofs.Kept.{RouteKept, route-kept}
+use Rattle.entry.proofs.Laws.{RouteKept, route-kept}
 use Rattle.sheet.specs.Sheet.{layoutOf}
 use Rattle.sheet.specs.Tables.{routeOf, routesOf}
-use Rattle.sheet.proofs.Entries.{route-keeps}
+use Rattle.sheet.proofs.Laws.{route-keeps}
 use Rattle.route.specs.declared.Chosen.{Chosen}
 use Rattle.route.specs.declared.Chosen.the-variants.{Found, Nothing}
 use Rattle.route.specs.Choice.{whichRoute}
-use Rattle.route.specs.Rank.{ranksIn, bestOf}
+use Rattle.route.specs.Inside.{ranksIn, bestOf}
 use Rattle.route.proofs.Turns.{by-rank, chosen-there}
+-- it serves, and of the routes that pass a test none is longer than the one that the test chooses
+pub use Rattle.route.proofs.Longest.{Serves, chosen-serves, NoneLonger, none-longer}
 
 -- a route of the sheet, by its number
 pub record OfSheet (s : List ℕ) (r : Route) : Type 0 where

@@ -1,19 +1,31 @@
--- How one pass finds the route: every route has a rank for a source and a group, and the first of the highest rank is the
--- one. Ranks are 1 to 33 for kind 3, 34 for kind 2, 36 to 67 for kind 1, by length; 0 serves not at all.
+-- Inside: what only the contracts of this crate's own functions cite. No entry's promise rests on it, and a reader of the definitions may pass it over.
+-- Here: how one pass finds the route. Every route has a rank for a source and a group, and the first of the highest rank is
+-- the one; 0 serves not at all.
 use Prim.Native.Nat.{ℕ, zero, suc, _+_}
 use mathlib.Core.Bool.{Bool, not, _&&_, _||_, cond}
 use mathlib.Core.List.{List}
 use lib.Dec.{ltb}
 use Rattle.wire.specs.Addresses.{allOnes}
+use Rattle.entry.specs.Prefix.{addressBits}
 use Rattle.entry.specs.declared.route.Route.{Route}
 use Rattle.sheet.specs.Tables.{routeOf}
 use Rattle.route.specs.declared.Best.{Best}
 use Rattle.route.specs.Choice.{servesBoth, servesGroup, servesSource}
 
+-- the lowest rank of kind 3, the rank of kind 2 above all of these, and what kind 1 ranks above: each longer by a bit is one more
+abbrev pub sourceRank : ℕ
+sourceRank = 1
+
+abbrev pub groupRank : ℕ
+groupRank = sourceRank + addressBits + 1
+
+abbrev pub bothRank : ℕ
+bothRank = groupRank + 1
+
 -- the rank by three tests, the first of which counts most
 unfoldable pub rankBy : (Route → Bool) → (Route → Bool) → (Route → Bool) → Route → ℕ
 rankBy both shared sourced r =
-    cond (both r) (35 + r .length) (cond (shared r) (34 + r .length) (cond (sourced r) (1 + r .length) 0))
+    cond (both r) (bothRank + r .length) (cond (shared r) (groupRank + r .length) (cond (sourced r) (sourceRank + r .length) 0))
 
 -- kind 1 wants a source and a group; kind 2 wants a group, or no source; kind 3 wants a source
 abbrev pub asBoth : ℕ → ℕ → Route → Bool
