@@ -60,7 +60,7 @@ by-answer P c t no-way way =
     (λ none. let both = passed-rows c t none in way (both .0) (both .1))
 
 -- a sound clock issues a time for every reading in range
-pub accepts : (c : Clock) (t : ℕ) → Sound c → t ≤ lastTime → advanceOf c t ≡ issued t (timeFor c t)
+accepts : (c : Clock) (t : ℕ) → Sound c → t ≤ lastTime → advanceOf c t ≡ issued t (timeFor c t)
 unfolding advanceOf
 accepts c t s h = none-is _ _ (advanceRows c t) (not-refused c t s h)
 

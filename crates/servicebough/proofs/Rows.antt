@@ -4,32 +4,35 @@ use mathlib.Core.Path.{_≡_}
 use mathlib.Core.List.{List}
 use native.Mathlib.Omega.{arith}
 use lib.ListN.{length}
-use borrow.Author.Tests.{ne-eqb, lt-ltb, le-ltb}
+use borrow.Author.Tests.{lt-ltb, le-ltb}
+use Rattle.rows.specs.Rows.{byFirst}
+use Rattle.rows.proofs.Tests.{first}
 use Rattle.wire.specs.Numbers.{bytes32, bytes64}
 use Rattle.wire.specs.Parts.{splice}
 use Rattle.clock.specs.declared.Tick.{Tick}
 use Rattle.yard.specs.declared.Walked.{Walked}
 use Rattle.yard.specs.Walk.{Walk, Tells}
-use Rattle.servicebough.specs.Ticks.{tickBytes, tickNumber, tickLeft, TickMeets}
+use Rattle.drops.specs.Drop.{dropRoom}
+use Rattle.servicebough.specs.Ticks.{tickSize, tickBytes, TickMeets}
 use Rattle.servicebough.specs.Answers.{walkedOf, walkedBytes, answerLeft, handed, walkHanded}
 use Rattle.servicebough.proofs.Behind.{three-written, four-written}
 
 module _ (k : Tick) (out : List ℕ) where
   -- too little room
-  pub no-room : length out < 24 → TickMeets k out 1 out
-  unfolding tickNumber tickLeft
-  no-room h = record { number = simp (lt-ltb _ _ h); bytes = simp (lt-ltb _ _ h) }
+  pub no-room : length out < tickSize → TickMeets k out dropRoom out
+  unfolding byFirst
+  no-room h = record { number = search first; bytes = search first }
 
-  module _ (room : 24 ≤ length out) where
+  module _ (room : tickSize ≤ length out) where
     -- refused by the clock
     pub handed-on : (k .number ≡ 0 → ⊥) → TickMeets k out (k .number) out
-    unfolding tickNumber tickLeft
-    handed-on h = record { number = simp (le-ltb _ _ room); bytes = simp (le-ltb _ _ room, ne-eqb _ _ h) }
+    unfolding byFirst
+    handed-on h = record { number = search first; bytes = search first }
 
     -- accepted
     pub written : (a b c : List ℕ) → k .number ≡ 0 → a ≡ splice out 0 (bytes64 (k .clock .r)) → b ≡ splice a 8 (bytes64 (k .clock .y))
         → c ≡ splice b 16 (bytes64 (k .time)) → TickMeets k out 0 c
-    unfolding tickNumber tickLeft tickBytes
+    unfolding byFirst tickBytes
     written a b c h ea eb ec =
         let all = three-written 3 (k .clock .r) (k .clock .y) out a b ea eb (k .time) c ec (omega arith) in
         record { number = simp (le-ltb _ _ room, h); bytes = simp (le-ltb _ _ room, h) all }

@@ -14,20 +14,29 @@ ghost use Rattle.yard.specs.Walk.{visit, walkOf};
 ghost use Rattle.servicebough.specs.Ticks.{TickMeets};
 ghost use Rattle.servicebough.specs.Answers.{answerLeft, handed, walkHanded};
 
+const DROP_ROOM: u32 = 1;
+
+const TICK_SIZE: usize = 24;
+
+// Where y and the time issued go, behind r.
+const TICK_Y: usize = 8;
+
+const TICK_TIME: usize = 16;
+
 // Hands over what a reading gave: its number and, unless it was refused, 24 bytes.
 fn hand_over(k: Tick, out: &mut [u8]) -> u32
     ensures { λ n. ⌜ TickMeets k (now (out .entry)) n (now (out .exit)) ⌝ }
 {
-    if out.len() < 24 {
-        return 1;
+    if out.len() < TICK_SIZE {
+        return DROP_ROOM;
     }
     if k.number != 0 {
         return k.number;
     }
     let c = k.clock;
     wire::put64(out, 0, c.r);
-    wire::put64(out, 8, c.y);
-    wire::put64(out, 16, k.time);
+    wire::put64(out, TICK_Y, c.y);
+    wire::put64(out, TICK_TIME, k.time);
     0
 }
 
