@@ -42,6 +42,10 @@ held-at s address i found e f = rw (← e, f)
 pub held-not : (s : List ℕ) (address : ℕ) (found : Holding) → found ≡ holderOf s address → found ≡ Nowhere → false ≡ isHeld (holderOf s address)
 held-not s address found e f = rw (← e, f)
 
+-- the number of interfaces that the check told
+pub interfaces-told : (s : List ℕ) (l : Layout) → l ≡ layoutOf s → l .interfaces ≡ layoutOf s .interfaces
+interfaces-told s l e = ap (λ (x : Layout). x .interfaces) e
+
 -- only a Query is looked for in the recent list
 pub seen-no-query : (h : Header) (x : Bool) → (h .kind ≡ query → ⊥) → false ≡ (isQuery h && x)
 seen-no-query h x no-query = rw (ne-eqb (h .kind) query no-query)

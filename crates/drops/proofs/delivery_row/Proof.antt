@@ -2,6 +2,7 @@
 use Rattle.rows.specs.Rows.{byFirst}
 use Rattle.rows.proofs.Tests.{first}
 use Rattle.drops.specs.Drop.{deliveryRows}
+use Rattle.drops.proofs.Rows.{interfaces-told}
 use borrow.Author.Needs.{needs}
 use Rattle.drops.proofs.delivery_row.Statement.{statement}
 use Rattle.drops.proofs.delivery_row.Tie as tie
@@ -11,7 +12,7 @@ unfolding deliveryRows byFirst
 delivery-row-spec =
     tie.close
     (tie.spec
-    (λ c κs. search needs)
+    (λ c κs. search interfaces-told)
     (λ c. search first depth 30 fits 4000)
     (λ c. search first depth 30 fits 4000)
     (λ c. search needs)

@@ -10,6 +10,7 @@ unfolding byFirst
 code-on-spec =
     tie.close
     (tie.spec
+    (λ c. search needs)
     (λ c. search first depth 30 fits 4000)
     (λ c κs. search needs)
     (λ c. search first depth 30 fits 4000)
@@ -22,6 +23,7 @@ code-on-spec =
     (λ c. search first depth 30 fits 4000)
     (λ c κs. search needs)
     (λ c. search first depth 30 fits 4000)
+    (λ c κs. search needs)
     (λ c. search first depth 30 fits 4000)
     (λ c κs. search needs)
     (λ c. search first depth 30 fits 4000)
