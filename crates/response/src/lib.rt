@@ -12,7 +12,7 @@ ghost use Rattle.response.specs.View.{boundaryOn, addressOf, inputOf};
 ghost use Rattle.rows.specs.Rows.{firstOf};
 ghost use Rattle.response.specs.Code.{scoped, codesFor, codeOf};
 ghost use Rattle.response.specs.Fill.{upstreamOf, totalOf, maskOf, sOf, filledOf, unfilled, fillFor, blockOf, endsTrace};
-ghost use Rattle.response.specs.Inside.{RouteFits};
+ghost use Rattle.response.specs.Inside.{lateCodes, RouteFits};
 ghost use Rattle.response.specs.Bytes.{blockBytes, noteBytes};
 
 // The forwarding codes.
@@ -107,12 +107,32 @@ fn in_scope(v: View) -> bool
     (v.group / 16777216 == 239) & (entry::is_boundary(v.here) | boundary_on(incoming))
 }
 
-// The first code that applies where a route was chosen.
+// The first code from SCOPED on that applies, where a route was chosen.
+fn late_code(v: View, r: Route) -> u8
+    requires { ⌜ v .number < mostInterfaces ⌝ }
+    ensures { λ code. ⌜ code ≡ firstOf (lateCodes v r) ⌝ }
+{
+    let number = v.number as usize;
+    if in_scope(v) {
+        return SCOPED;
+    }
+    if entry::prune_sent(r) {
+        return PRUNE_SENT;
+    }
+    if entry::in_map(r.pruned, number) {
+        return PRUNE_RCVD;
+    }
+    if entry::in_map(r.stopped, number) {
+        return NOT_FORWARDING;
+    }
+    NO_ERROR
+}
+
+// The first code that applies, where a route was chosen.
 fn code_on(v: View, r: Route) -> u8
     requires { ⌜ v .number < mostInterfaces ⌝ }
     ensures { λ code. ⌜ code ≡ firstOf (codesFor v (Found r)) ⌝ }
 {
-    let number = v.number as usize;
     if v.query & !v.proper {
         return WRONG_LAST_HOP;
     }
@@ -128,22 +148,10 @@ fn code_on(v: View, r: Route) -> u8
     if v.number == r.incoming as u32 {
         return RPF_IF;
     }
-    if !entry::in_map(r.forward, number) {
+    if !entry::in_map(r.forward, v.number as usize) {
         return WRONG_IF;
     }
-    if in_scope(v) {
-        return SCOPED;
-    }
-    if entry::prune_sent(r) {
-        return PRUNE_SENT;
-    }
-    if entry::in_map(r.pruned, number) {
-        return PRUNE_RCVD;
-    }
-    if entry::in_map(r.stopped, number) {
-        return NOT_FORWARDING;
-    }
-    NO_ERROR
+    late_code(v, r)
 }
 
 // The first code that applies.

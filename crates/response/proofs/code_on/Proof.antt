@@ -10,7 +10,6 @@ unfolding byFirst
 code-on-spec =
     tie.close
     (tie.spec
-    (λ c. search needs)
     (λ c. search first depth 30 fits 4000)
     (λ c κs. search needs)
     (λ c. search first depth 30 fits 4000)
@@ -19,14 +18,8 @@ code-on-spec =
     (λ c. search first depth 30 fits 4000)
     (λ c. search needs)
     (λ c. search first depth 30 fits 4000)
+    (λ c. search needs)
     (λ c κs. search needs)
     (λ c. search first depth 30 fits 4000)
     (λ c κs. search needs)
-    (λ c. search first depth 30 fits 4000)
-    (λ c κs. search needs)
-    (λ c. search first depth 30 fits 4000)
-    (λ c κs. search needs)
-    (λ c. search first depth 30 fits 4000)
-    (λ c κs. search needs)
-    (λ c. search first depth 30 fits 4000)
     (λ c. search first depth 30 fits 4000))
