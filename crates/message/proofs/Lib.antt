@@ -8,4 +8,5 @@ pub mod Append
 pub mod Write
 pub mod Accept
 pub mod Sent
+pub mod Bytes
 pub mod Determined

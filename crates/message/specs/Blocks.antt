@@ -3,11 +3,12 @@
 use Prim.Native.Nat.{ℕ, zero, suc, _+_, _%_}
 use mathlib.Core.Path.{_≡_}
 use mathlib.Core.Bool.{Bool, false, cond, _&&_, _||_}
-use mathlib.Core.List.{List, [], _∷_}
+use mathlib.Core.List.{List, [], _∷_, map}
 use lib.Dec.{leb, eqb}
-use lib.ListN.{length, getD, drop}
+use lib.ListN.{length, getD, drop, set}
 use Rattle.wire.specs.Numbers.{byteAt, be16}
-use Rattle.message.specs.Format.{headerSize, query, standard, augmented, standardSize, augmentedLeast, augmentedUnit}
+use Rattle.wire.specs.Parts.{part}
+use Rattle.message.specs.Format.{headerSize, query, standard, augmented, standardSize, codeOffset, augmentedLeast, augmentedUnit}
 
 -- a block of a message: its place, its type, and its whole length
 pub record Block : Type 0 where
@@ -112,3 +113,13 @@ pub record StandardBlock (bytes : List ℕ) : Type 0 where
   pub long : length bytes ≡ standardSize
   pub kind : byteAt bytes 0 ≡ standard
   pub size : be16 bytes 1 ≡ standardSize
+
+-- the type 4 blocks of a message as bytes, in their order
+unfoldable pub standardBlocks : List ℕ → List (List ℕ)
+standardBlocks s = map (λ at. part at standardSize s) (standards s)
+
+-- some blocks, with a forwarding code written into the last of them
+unfoldable pub lastCoded : ℕ → List (List ℕ) → List (List ℕ)
+lastCoded code [] = []
+lastCoded code (block ∷ []) = set block codeOffset code ∷ []
+lastCoded code (block ∷ other ∷ others) = block ∷ lastCoded code (other ∷ others)
