@@ -28,7 +28,7 @@ use Rattle.engine.proofs.LawsDrop.{taken, drop-changes-nothing, taken-is-sent}
 use Rattle.engine.proofs.LawsSent.{sent-fits}
 use Rattle.engine.proofs.LawsOn.{sent-to, sent-noted}
 use Rattle.yard.specs.Walk.{notSent, sentFor}
-use Rattle.yard.specs.Ready.{Called}
+use Rattle.yard.specs.Inside.{Called}
 
 -- the record's length and destination are read back
 module _ (n : Note) where
@@ -59,9 +59,9 @@ module _ (sheet : List ℕ) (time : ℕ) (a : Arrival) where
 
 -- an empty list and an empty record, as they are lent
 abbrev blank : List ℕ
-blank = replicate 16 0
+blank = replicate noteSize 0
 
-module _ (sheet : List ℕ) (time : ℕ) (a : Arrival) (sent recent s1 n1 : List ℕ) (answer : ℕ) (long : length sent ≡ 1472)
+module _ (sheet : List ℕ) (time : ℕ) (a : Arrival) (sent recent s1 n1 : List ℕ) (answer : ℕ) (long : length sent ≡ most)
     (meets : outcome answer recent s1 n1 ≡ stepOf a time sheet empty sent blank) where
   number-same : dropOf a sheet empty (length sent) (length blank) ≡ dropOf a sheet empty most noteSize
   number-same = rw long
