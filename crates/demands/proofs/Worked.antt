@@ -34,8 +34,9 @@ use Rattle.drops.specs.Arrival.{routeFor, lastHopFor}
 use Rattle.drops.specs.Drop.{lendingRow, deliveryRow, routeRow, dropOf}
 use Rattle.engine.specs.View.{incomingFor, viewWith}
 use Rattle.engine.specs.Answer.{longerMessage, longerAnswer, sentBy}
+use Rattle.rows.specs.Rows.{byFirst}
 use Rattle.yard.specs.Yard.{sheetAt, yardOk, lowestFrom, holderIn}
-use Rattle.yard.specs.Walk.{Walk, sentFor, endOf, walkBy, walkFrom, walkOf}
+use Rattle.yard.specs.Walk.{Walk, sentFor, endOf, walkBy, walkFrom, walkRows, walkOf}
 use Rattle.demands.specs.Example.{address, block, yard, query, trace}
 
 -- an example: its number, what the definitions give, what the paper says
@@ -95,7 +96,7 @@ examples =
 
 -- all that the examples compute with, layer by layer
 unfoldable opened : ℕ
-unfolding be bytes splice carried sumFrom sumOk zeros frameOk hosts samePrefix zeroPast interfaceAt interfaceOk routeAt routeOk every listed blockOk interfaceBlocksIn interfaceBlocks entriesIn interfacesIn routesIn blockOkAt validSheet counted layoutOf interfaceOf routeOf interfacesOf routesOf prohibitedOf holderFrom holderOf servesBoth servesGroup servesSource longer longestBy orElse whichRoute reaches someReaches properLastHop testsOf codeOf filledOf blockOf endsTrace blockBytes headerOf fitsIn begins blocksBy blocksFrom blocksOf totalSize standardPlaces lastOr standards blocksEnd standardFirst fillsMessage rightForm firstRow numberOf allZero wellFormed empty firstEntries someIsOf seenIn routeFor lastHopFor lendingRow deliveryRow routeRow dropOf incomingFor viewWith longerMessage longerAnswer sentBy sheetAt yardOk lowestFrom holderIn sentFor endOf walkBy walkFrom walkOf block yard query trace issues startOf advanceOf timeFor unixOf examples
+unfolding be bytes splice carried sumFrom sumOk zeros frameOk hosts samePrefix zeroPast interfaceAt interfaceOk routeAt routeOk every listed blockOk interfaceBlocksIn interfaceBlocks entriesIn interfacesIn routesIn blockOkAt validSheet counted layoutOf interfaceOf routeOf interfacesOf routesOf prohibitedOf holderFrom holderOf servesBoth servesGroup servesSource longer longestBy orElse whichRoute reaches someReaches properLastHop testsOf codeOf filledOf blockOf endsTrace blockBytes headerOf fitsIn begins blocksBy blocksFrom blocksOf totalSize standardPlaces lastOr standards blocksEnd standardFirst fillsMessage rightForm firstRow numberOf allZero wellFormed empty firstEntries someIsOf seenIn routeFor lastHopFor lendingRow deliveryRow routeRow dropOf incomingFor viewWith longerMessage longerAnswer sentBy sheetAt yardOk lowestFrom holderIn sentFor endOf walkBy walkFrom byFirst walkRows walkOf block yard query trace issues startOf advanceOf timeFor unixOf examples
 opened = 0
 
 pub worked : failing examples ≡ []
