@@ -32,8 +32,8 @@ use Rattle.engine.proofs.LawsSent.{accepted-is-answered, sent-begins, sent-full
 use Rattle.engine.proofs.Determined.{step-determined}
 use Rattle.yard.specs.declared.Walked.{Walked}
 use Rattle.yard.specs.Walk.{toGroup, nobodyThere, Visit, Walk, walkOf, WalkMeets}
-use Rattle.yard.proofs.Faithful.{Starts, Faithful, walk-is-faithful}
-use Rattle.yard.proofs.Determined.{walk-determined}
+use Rattle.yard.specs.Faithful.{Starts, Faithful, mostSteps}
+use Rattle.yard.proofs.Laws.{walk-is-faithful, steps-within, told-once}
 use Rattle.demands.proofs.Worked.{failing, examples, worked}
 
 -- 1. Whatever arrives is dropped, by a number from 1 to 19 and with nothing lent changed, or answered by 100 or 101
@@ -90,7 +90,7 @@ leads-shrink = lead-shrinks
 -- 28; its steps are the visits of a walk that tells the truth, block by block, and the output begins with its last message
 pub record Comes (yard times : List ℕ) (v : Visit) (r : Walked) (output : List ℕ) : Type 0 where
   pub by-hops : r .steps ≤ headerOf (v .arrival .message) .hops
-  pub by-room : r .steps ≤ 28
+  pub by-room : r .steps ≤ mostSteps
   pub end : (r .end ≡ sentHome) ⊎ ((r .end ≡ toGroup) ⊎ (r .end ≡ nobodyThere))
   pub walk : Walk
   pub steps : r .steps ≡ length (walk .visits)
@@ -103,18 +103,18 @@ comes-home yard times v old r new starts meets =
     let w = walkOf yard times v (length old) in
     let f = walk-is-faithful yard times v (length old) starts in
     record {
-      by-hops = rw (meets .steps) (f .by-hops);
-      by-room = rw (meets .steps) (f .by-room);
-      end = rw (meets .end) (f .end);
+      by-hops = rw (meets .answer) (f .steps);
+      by-room = rw (meets .answer) (steps-within yard times v (length old));
+      end = rw (meets .answer) (f .end);
       walk = w;
-      steps = meets .steps;
-      sent = rw (meets .long, meets .sends, splice-front old (w .last)) (take-append-seam (w .last) (drop (length (w .last)) old));
+      steps = rw (meets .answer);
+      sent = rw (meets .answer, meets .sends, splice-front old (w .last)) (take-append-seam (w .last) (drop (length (w .last)) old));
       truth = f;
     }
 
 pub one-walk : (yard times : List ℕ) (v : Visit) (old : List ℕ) (r s : Walked) (r-new s-new : List ℕ)
     → WalkMeets yard times v old r r-new → WalkMeets yard times v old s s-new → (r ≡ s) × (r-new ≡ s-new)
-one-walk = walk-determined
+one-walk yard times v old r s r-new s-new = told-once
 
 -- P1 to P8: none of the worked examples fails
 pub worked-through : failing examples ≡ []

@@ -35,8 +35,9 @@ use Rattle.drops.specs.Arrival.{routeFor, lastHopFor}
 use Rattle.drops.specs.Drop.{lendingRow, deliveryRow, routeRow, dropOf}
 use Rattle.engine.specs.View.{incomingFor, viewWith}
 use Rattle.engine.specs.Answer.{longerMessage, longerAnswer, sentBy}
+use Rattle.rows.specs.Rows.{byFirst}
 use Rattle.yard.specs.Yard.{sheetAt, yardOk, lowestFrom, holderIn}
-use Rattle.yard.specs.Walk.{Walk, sentFor, endOf, walkBy, walkFrom, walkOf}
+use Rattle.yard.specs.Walk.{Walk, sentFor, endOf, walkBy, walkFrom, walkRows, walkOf}
 use Rattle.demands.specs.Example.{address, block, yard, query, trace}
 
 -- an example: its number, what the definitions give, what the paper says

@@ -28,9 +28,9 @@ use Rattle.response.specs.declared.Incoming.{Incoming}
 use Rattle.response.specs.Fill.{allRouters, upstreamOf, blockOf, endsTrace}
 use Rattle.response.specs.Bytes.{blockBytes}
 use Rattle.message.specs.Format.{most, query, request, standardSize}
-use Rattle.message.specs.Header.{headerOf}
+use Rattle.message.specs.Header.{headerOf, retyped}
 use Rattle.message.specs.Blocks.{standardCount, lastStandard}
-use Rattle.message.proofs.Laws.{retyped, standards-fit, Accepted, accepted-kinds, accepted-query, sent-header, sent-count, sent-last, sent-accepted}
+use Rattle.message.proofs.Laws.{standards-fit, Accepted, accepted-kinds, accepted-query, sent-header, sent-count, sent-last, sent-accepted}
 use Rattle.drops.specs.Arrival.{Arrival, arrival, routeFor}
 use Rattle.drops.specs.Drop.{noteSize, nearTtl, table}
 use Rattle.engine.specs.View.{viewWith, viewOf}

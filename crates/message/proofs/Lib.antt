@@ -11,3 +11,4 @@ mod Append
 mod Write
 mod Accept
 mod Sent
+mod Bytes

@@ -7,10 +7,9 @@ use mathlib.Core.List.{List, [], _∷_, _++_}
 use native.Mathlib.Omega.{arith}
 use lib.ListN.{length, set, length-append, length-set}
 use Rattle.message.specs.Format.{most, request, standardSize}
-use Rattle.message.specs.Header.{headerOf}
+use Rattle.message.specs.Header.{headerOf, retyped}
 use Rattle.message.specs.Inside.{StandardBlock}
 use Rattle.message.specs.Blocks.{standards, standardCount, lastStandard, requestForm}
-use Rattle.message.proofs.Fields.{retyped}
 use Rattle.message.proofs.Append.{append-standards, append-last, append-count, right-form-fills, append-right-form, append-header}
 use Rattle.message.proofs.Write.{typed-blocks, typed-standards, typed-form, typed-header, same-request-form}
 use Rattle.message.proofs.Accept.{Accepted}

@@ -2,11 +2,12 @@
 -- its length, and all that is said of blocks is said of that list.
 use Prim.Native.Nat.{ℕ, zero, suc, _+_, _%_}
 use mathlib.Core.Bool.{Bool, false, cond, _&&_, _||_}
-use mathlib.Core.List.{List, [], _∷_}
+use mathlib.Core.List.{List, [], _∷_, map}
 use lib.Dec.{leb, eqb}
-use lib.ListN.{length, getD, drop}
+use lib.ListN.{length, getD, drop, set}
 use Rattle.wire.specs.Numbers.{byteAt, be16}
-use Rattle.message.specs.Format.{headerSize, query, standard, augmented, standardSize, augmentedLeast, augmentedUnit}
+use Rattle.wire.specs.Parts.{part}
+use Rattle.message.specs.Format.{headerSize, query, standard, augmented, standardSize, codeOffset, augmentedLeast, augmentedUnit}
 
 -- a block of a message: its place, its type, and its whole length
 pub record Placed : Type 0 where
@@ -105,3 +106,13 @@ requestForm s = fillsMessage s && standardFirst (blocksOf s)
 -- what follows the header keeps the rules of the message's type
 unfoldable pub rightForm : List ℕ → Bool
 rightForm s = cond (eqb (byteAt s 0) query) (queryForm s) (requestForm s)
+
+-- the type 4 blocks of a message as bytes, in their order
+unfoldable pub standardBlocks : List ℕ → List (List ℕ)
+standardBlocks s = map (λ at. part at standardSize s) (standards s)
+
+-- some blocks, with a forwarding code written into the last of them
+unfoldable pub lastCoded : ℕ → List (List ℕ) → List (List ℕ)
+lastCoded code [] = []
+lastCoded code (block ∷ []) = set block codeOffset code ∷ []
+lastCoded code (block ∷ other ∷ others) = block ∷ lastCoded code (other ∷ others)

@@ -14,7 +14,7 @@ use Rattle.yard.specs.declared.Walked.{Walked}
 use Rattle.yard.specs.Walk.{Walk, Tells}
 use Rattle.drops.specs.Drop.{dropRoom}
 use Rattle.servicebough.specs.Ticks.{tickSize, tickBytes, TickMeets}
-use Rattle.servicebough.specs.Answers.{walkedOf, walkedBytes, answerLeft, handed, walkHanded}
+use Rattle.servicebough.specs.Answers.{walkedBytes, answerLeft, handed, walkHanded}
 use Rattle.servicebough.proofs.Behind.{three-written, four-written}
 
 module _ (k : Tick) (out : List ℕ) where
@@ -67,5 +67,4 @@ module _ (w : Walk) (output answer : List ℕ) where
       → handed (r .end) output′ answer′ ≡ walkHanded w output answer
   unfolding walkHanded
   walk-told r output′ answer′ room t e =
-      let is : r ≡ walkedOf w = λ d. record { end = t .end d; steps = t .steps d; blocks = t .blocks d; length = t .long d } in
-      simp (le-ltb _ _ room, e, t .sends, is)
+      simp (le-ltb _ _ room, e, t .sends, t .answer)

@@ -6,16 +6,10 @@ use lib.Dec.{ltb}
 use lib.ListN.{length}
 use Rattle.wire.specs.Numbers.{bytes32}
 use Rattle.wire.specs.Parts.{splice}
-use Rattle.message.specs.Blocks.{standardCount}
 use Rattle.drops.specs.Drop.{noteSize}
 use Rattle.engine.specs.Answer.{sentHome}
 use Rattle.yard.specs.declared.Walked.{Walked}
-use Rattle.yard.specs.Walk.{Walk}
-
--- what is answered for a walk: its end, its steps, the type 4 blocks and the length of the last message sent
-abbrev pub walkedOf : Walk → Walked
-walkedOf w =
-    record { end = w .end; steps = length (w .visits); blocks = standardCount (w .last); length = length (w .last) }
+use Rattle.yard.specs.Walk.{Walk, walkedOf}
 
 -- the answer's 16 bytes: 4 for each
 unfoldable pub walkedBytes : Walked → List ℕ

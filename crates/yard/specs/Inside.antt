@@ -1,4 +1,4 @@
--- What the private functions of the walk ask for and answer.
+-- Inside: what only the contracts of this crate's own functions cite. No entry's promise rests on it, and a reader of the definitions may pass it over.
 use Prim.Native.Nat.{ℕ, _*_, _≤_, _<_}
 use mathlib.Core.Bool.{Bool, true}
 use mathlib.Core.List.{List}
@@ -7,13 +7,14 @@ use lib.ListN.{length, getD}
 use Rattle.wire.specs.Parts.{splice}
 use Rattle.sheet.specs.Sheet.{layoutOf}
 use Rattle.message.specs.Blocks.{standardCount}
+use Rattle.drops.specs.Drop.{nearTtl}
 use Rattle.drops.specs.Arrival.{arrival}
 use Rattle.engine.specs.Answer.{Sent, sentOn}
 use Rattle.yard.specs.declared.Call.{Call}
 use Rattle.yard.specs.declared.Hop.{Hop}
 use Rattle.yard.specs.declared.Walked.{Walked}
 use Rattle.yard.specs.Yard.{sheetSize, mostRouters, routersIn, sheetAt, yardOk}
-use Rattle.yard.specs.Walk.{visit, endOf, nextOf, nearTtl}
+use Rattle.yard.specs.Walk.{visit, endOf, nextOf}
 
 -- how many interfaces each of n routers has
 pub record Counted (yard counts : List ℕ) (n : ℕ) : Type 0 where
@@ -21,12 +22,12 @@ pub record Counted (yard counts : List ℕ) (n : ℕ) : Type 0 where
   pub each : (i : ℕ) → i < n → getD counts i 0 ≡ layoutOf (sheetAt yard i) .interfaces
 
 -- the check of a yard: whether it is right, and then the interfaces of its routers
-pub record Checked (yard : List ℕ) (ok : Bool) (counts : List ℕ) : Type 0 where
+pub record YardChecked (yard : List ℕ) (ok : Bool) (counts : List ℕ) : Type 0 where
   pub is : ok ≡ yardOk yard
   pub counted : ok ≡ true → Counted yard counts (routersIn yard)
 
 -- a router of the yard that has its sheet and its time, and the interfaces of all
-pub record Ready (yard counts times : List ℕ) (router : ℕ) : Type 0 where
+pub record CanEnter (yard counts times : List ℕ) (router : ℕ) : Type 0 where
   pub whole : sheetSize * routersIn yard ≤ length yard
   pub few : routersIn yard ≤ mostRouters
   pub there : router < routersIn yard
