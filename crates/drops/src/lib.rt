@@ -22,7 +22,7 @@ pub const NOTE_SIZE: usize = 16;
 pub const NEAR_TTL: u32 = 255;
 
 // The drop numbers; 5 to 13 are those of a message by itself.
-const DROP_ROOM: u32 = 1;
+pub const DROP_ROOM: u32 = 1;
 
 const DROP_STATE: u32 = 2;
 

@@ -10,11 +10,12 @@ use Rattle.rows.proofs.Tests.{first}
 use Rattle.wire.specs.Numbers.{bytes32, bytes64}
 use Rattle.wire.specs.Parts.{splice}
 use Rattle.clock.specs.declared.Tick.{Tick}
+use Rattle.engine.specs.Answer.{sentHome}
 use Rattle.yard.specs.declared.Walked.{Walked}
 use Rattle.yard.specs.Walk.{Walk, Tells}
 use Rattle.drops.specs.Drop.{dropRoom}
 use Rattle.servicebough.specs.Ticks.{tickSize, tickBytes, TickMeets}
-use Rattle.servicebough.specs.Answers.{walkedBytes, answerLeft, handed, walkHanded}
+use Rattle.servicebough.specs.Answers.{answerSize, walkedBytes, answerLeft, handed, walkHanded}
 use Rattle.servicebough.proofs.Behind.{three-written, four-written}
 
 module _ (k : Tick) (out : List ℕ) where
@@ -43,12 +44,12 @@ of-tick k k′ out left n e m = rw (← e) m
 
 module _ (r : Walked) (answer : List ℕ) where
   -- nothing was sent
-  pub not-answered : r .end < 101 → answer ≡ answerLeft r answer
+  pub not-answered : r .end < sentHome → answer ≡ answerLeft r answer
   unfolding answerLeft
   not-answered h = simp (lt-ltb _ _ h)
 
   -- end, steps, blocks and length
-  pub answered : (a b c e : List ℕ) → 101 ≤ r .end → 16 ≤ length answer → a ≡ splice answer 0 (bytes32 (r .end))
+  pub answered : (a b c e : List ℕ) → sentHome ≤ r .end → answerSize ≤ length answer → a ≡ splice answer 0 (bytes32 (r .end))
       → b ≡ splice a 4 (bytes32 (r .steps)) → c ≡ splice b 8 (bytes32 (r .blocks)) → e ≡ splice c 12 (bytes32 (r .length))
       → e ≡ answerLeft r answer
   unfolding answerLeft walkedBytes
@@ -58,13 +59,13 @@ module _ (r : Walked) (answer : List ℕ) where
 
 module _ (w : Walk) (output answer : List ℕ) where
   -- too little room for the answer
-  pub no-answer : length answer < 16 → handed 1 output answer ≡ walkHanded w output answer
-  unfolding walkHanded
+  pub no-answer : length answer < answerSize → handed dropRoom output answer ≡ walkHanded w output answer
+  unfolding walkHanded byFirst
   no-answer h = simp (lt-ltb _ _ h)
 
   -- what a walk tells is what is handed over
-  pub walk-told : (r : Walked) (output′ answer′ : List ℕ) → 16 ≤ length answer → Tells w output r output′ → answer′ ≡ answerLeft r answer
+  pub walk-told : (r : Walked) (output′ answer′ : List ℕ) → answerSize ≤ length answer → Tells w output r output′ → answer′ ≡ answerLeft r answer
       → handed (r .end) output′ answer′ ≡ walkHanded w output answer
-  unfolding walkHanded
+  unfolding walkHanded byFirst
   walk-told r output′ answer′ room t e =
       simp (le-ltb _ _ room, e, t .sends, t .answer)

@@ -12,11 +12,12 @@ ghost use Rattle.drops.specs.Arrival.{arrival};
 ghost use Rattle.engine.specs.Step.{outcome, StepMeets};
 ghost use Rattle.yard.specs.Walk.{visit, walkOf};
 ghost use Rattle.servicebough.specs.Ticks.{TickMeets};
-ghost use Rattle.servicebough.specs.Answers.{answerLeft, handed, walkHanded};
+ghost use Rattle.servicebough.specs.Answers.{answerSize, answerLeft, handed, walkHanded};
 
-const DROP_ROOM: u32 = 1;
-
+// Bytes lent for the clock's r, y and time, and for the answer of a walk.
 const TICK_SIZE: usize = 24;
+
+const ANSWER_SIZE: usize = 16;
 
 // Where y and the time issued go, behind r.
 const TICK_Y: usize = 8;
@@ -28,7 +29,7 @@ fn hand_over(k: Tick, out: &mut [u8]) -> u32
     ensures { λ n. ⌜ TickMeets k (now (out .entry)) n (now (out .exit)) ⌝ }
 {
     if out.len() < TICK_SIZE {
-        return DROP_ROOM;
+        return drops::DROP_ROOM;
     }
     if k.number != 0 {
         return k.number;
@@ -105,10 +106,10 @@ pub extern "C" fn bough_engine_step(
 
 // Writes what a walk answered into 16 bytes, unless it was refused or dropped.
 fn write_answer(w: Walked, answer: &mut [u8])
-    requires { ⌜ 16 ≤ length (now answer) ⌝ }
+    requires { ⌜ answerSize ≤ length (now answer) ⌝ }
     ensures { λ _. ⌜ now (answer .exit) ≡ answerLeft w (now (answer .entry)) ⌝ }
 {
-    if w.end < 101 {
+    if w.end < engine::SENT_HOME {
         return;
     }
     wire::put32(answer, 0, w.end);
@@ -134,8 +135,8 @@ pub extern "C" fn bough_walk(
         ≡ walkHanded (walkOf (now (yard .entry)) (now (times .entry)) (visit start (arrival (now (message .entry)) destination receiving ttl)) (length (now (output .entry))))
         (now (output .entry)) (now (answer .entry)) ⌝ }
 {
-    if answer.len() < 16 {
-        return 1;
+    if answer.len() < ANSWER_SIZE {
+        return drops::DROP_ROOM;
     }
     let w = yard::walk(
         yard,
