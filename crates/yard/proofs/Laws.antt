@@ -8,7 +8,7 @@ use Rattle.yard.specs.Walk.{Walk, Tells}
 -- every walk that is not refused and that its first router accepts comes home and tells the truth; and none has more than 28 steps
 pub use Rattle.yard.proofs.Faithful.{walk-is-faithful, not-refused-walks, steps-within}
 -- the walk from a visit is a run, and there is no other
-pub use Rattle.yard.proofs.Runs.{RunOf, walk-runs, one-run}
+pub use Rattle.yard.proofs.Runs.{walk-runs, one-run}
 -- who holds an address: the lowest router and its lowest interface, or nobody
 pub use Rattle.yard.proofs.Holders.{holder-is, holder-unique}
 

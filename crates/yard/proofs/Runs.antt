@@ -9,12 +9,9 @@ use lib.Dec.{eqb}
 use Rattle.rows.proofs.Tests.{decided}
 use Rattle.message.specs.Room.{hopsLeft}
 use Rattle.engine.specs.Answer.{sentOn}
-use Rattle.yard.specs.Walk.{Visit, sentAt, endOf, nextOf, Walk, walkFrom}
-use Rattle.yard.specs.Faithful.{Run, run-over, run-on}
+use Rattle.yard.specs.Walk.{Visit, sentAt, endOf, nextOf, walkFrom}
+use Rattle.yard.specs.Faithful.{Run, run-over, run-on, RunOf}
 use Rattle.yard.proofs.Turns.{goes-on, falls, from-ends, from-on}
-
-abbrev pub RunOf : List ℕ → List ℕ → Visit → Walk → Type 0
-RunOf yard times v w = Run yard times v (w .visits) (w .end) (w .last)
 
 module _ (yard times : List ℕ) where
   -- by the hops not yet used, which fall where the walk goes on

@@ -70,14 +70,12 @@ module _ (yard : List ℕ) (n i : ℕ) (low : i ≤ n) (high : n ≤ i) where
 -- the sizes of a yard
 pub record Sized (size : ℕ) : Type 0 where
   pub whole : sheetSize * (size / sheetSize) ≤ size
-  pub some : 1 ≤ size / sheetSize
   pub few : size / sheetSize ≤ mostRouters
 
 pub sized : (size : ℕ) → yardSizeOk size ≡ true → Sized size
 sized size e =
     let p = both-of (eqb (size % sheetSize) 0 && leb 1 (size / sheetSize)) (leb (size / sheetSize) mostRouters) e in
-    let q = both-of (eqb (size % sheetSize) 0) (leb 1 (size / sheetSize)) (p .0) in
-    record { whole = omega arith; some = leb-true 1 (size / sheetSize) (q .1); few = leb-true (size / sheetSize) mostRouters (p .1) }
+    record { whole = omega arith; few = leb-true (size / sheetSize) mostRouters (p .1) }
 
 module _ (yard : List ℕ) (size : Bool) (told : size ≡ yardSizeOk (length yard)) where
   pub wrong-size : (counts : List ℕ) → not size ≡ true → YardChecked yard false counts

@@ -49,6 +49,10 @@ pub data Run (yard times : List ℕ) : Visit → List Visit → ℕ → List ℕ
   run-on : {v : Visit} {later : List Visit} {end : ℕ} {last : List ℕ} → endOf yard (sentAt yard times v) ≡ sentOn
       → Run yard times (nextOf yard (sentAt yard times v)) later end last → Run yard times v (v ∷ later) end last
 
+-- a walk is a run from a visit
+abbrev pub RunOf : List ℕ → List ℕ → Visit → Walk → Type 0
+RunOf yard times v w = Run yard times v (w .visits) (w .end) (w .last)
+
 -- the router of a visit drops nothing
 abbrev pub Accepts : List ℕ → Visit → Type 0
 Accepts yard v = NoneApplies (rowsFor (sheetAt yard (v .router)) (v .arrival))
