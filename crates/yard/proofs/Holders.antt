@@ -2,7 +2,7 @@
 -- exactly where no router has one.
 use Prim.Native.Nat.{ℕ, zero, suc, _+_, _≤_, _<_}
 use mathlib.Core.List.{List}
-use mathlib.Core.Logic.{⊎-elim}
+use mathlib.Core.Logic.{_⊎_, inl, inr, ⊎-elim}
 use mathlib.Core.Path.{_≡_, refl}
 use native.Mathlib.Omega.{arith}
 use native.Mathlib.Nat.{eq-or-lt-of-le}
@@ -17,7 +17,7 @@ use Rattle.sheet.proofs.Laws.{interfaces-few, holder-there, holder-holds, holde
 use Rattle.yard.specs.declared.Holder.{Holder}
 use Rattle.yard.specs.declared.Holder.the-variants.{Held, Nobody}
 use Rattle.yard.specs.Yard.{routersIn, sheetAt, heldBy, lowestFrom, holderIn}
-use Rattle.yard.specs.Faithful.{LowestHolder, HolderIs}
+use Rattle.yard.specs.Faithful.{LowestHolder, NobodyHolds, HolderIs}
 
 -- what is not lower is at least as high
 at-least : (i j : ℕ) → (i < j → ⊥) → j ≤ i
@@ -28,6 +28,12 @@ pub record Holds (yard : List ℕ) (address i k : ℕ) : Type 0 where
   pub there : i < routersIn yard
   pub few : k < mostInterfaces
   pub holds : holderOf (sheetAt yard i) address ≡ At k
+
+-- somebody holds an address
+pub record Somebody (yard : List ℕ) (address : ℕ) : Type 0 where
+  pub router : ℕ
+  pub interface : ℕ
+  pub holds : LowestHolder yard address router interface
 
 module _ (yard : List ℕ) (address : ℕ) where
   -- none of the routers from number `from` up to `end` holds it
@@ -104,3 +110,10 @@ module _ (yard : List ℕ) (address : ℕ) where
   -- and nothing else is
   pub holder-unique : (h : Holder) → HolderIs yard address h → h ≡ holderIn yard address
   holder-unique h p = one-holder h (holderIn yard address) p holder-is
+
+  by-holder : (h : Holder) → HolderIs yard address h → NobodyHolds yard address ⊎ Somebody yard address
+  by-holder (Held i k) p = inr (record { router = i; interface = k; holds = p })
+  by-holder Nobody p = inl p
+
+  pub nobody-or-somebody : NobodyHolds yard address ⊎ Somebody yard address
+  nobody-or-somebody = by-holder (holderIn yard address) holder-is

@@ -10,7 +10,10 @@ pub use Rattle.yard.proofs.Faithful.{walk-is-faithful, not-refused-walk
 -- the walk from a visit is a run, and there is no other
 pub use Rattle.yard.proofs.Runs.{walk-runs, one-run}
 -- who holds an address: the lowest router and its lowest interface, or nobody
-pub use Rattle.yard.proofs.Holders.{holder-is, holder-unique}
+pub use Rattle.yard.proofs.Holders.{Somebody, nobody-or-somebody}
+-- a call of the engine by its promise, and what becomes of what it sent
+pub use Rattle.yard.proofs.Calls.{called}
+pub use Rattle.yard.proofs.Turns.{end-not-on, end-group, end-nobody, end-goes}
 
 -- one answer tells of a walk, and one output
 pub told-once : {w : Walk} {output : List ℕ} {r s : Walked} {new new′ : List ℕ} → Tells w output r new → Tells w output s new′ → (r ≡ s) × (new ≡ new′)

@@ -25,9 +25,9 @@ use Rattle.engine.proofs.Laws.{sent-cases, sent-answer, sent-fits, Grown, sent-
 use Rattle.yard.specs.declared.Holder.{Holder}
 use Rattle.yard.specs.declared.Holder.the-variants.{Held, Nobody}
 use Rattle.yard.specs.Yard.{sheetAt, holderIn}
-use Rattle.yard.specs.Faithful.{Accepts, blockFor, EndsWell}
-use Rattle.yard.specs.Walk.{toGroup, nobodyThere, Visit, visit, rowsFor, sentAt, endBy, endOf, nextOf, ends, entered, walkBy, walkFrom}
-use Rattle.yard.proofs.Holders.{holder-found}
+use Rattle.yard.specs.Faithful.{Accepts, blockFor, EndsWell, LowestHolder, NobodyHolds}
+use Rattle.yard.specs.Walk.{toGroup, nobodyThere, Visit, visit, rowsFor, sentAt, endBy, endOf, nextOf, ends, entered, walkBy, walkFrom, nextBy}
+use Rattle.yard.proofs.Holders.{holder-found, holder-unique}
 use Rattle.yard.proofs.Calls.{sent-dropped, sent-taken}
 
 -- what becomes of a Request sent on
@@ -50,6 +50,17 @@ module _ (yard : List ℕ) (sent : Sent) where
     pub end-held : multicast (sent .note .destination) ≡ false → endOf yard sent ≡ endBy (holderIn yard (sent .note .destination))
     unfolding endOf
     end-held g = rw (eq-eqb (sent .answer) sentOn on, g)
+
+    -- by who holds the destination, said without the search for it
+    module _ (single : multicast (sent .note .destination) ≡ false) where
+      pub end-nobody : NobodyHolds yard (sent .note .destination) → endOf yard sent ≡ nobodyThere
+      end-nobody h = end-held single ∙ ap endBy (sym (holder-unique yard (sent .note .destination) Nobody h))
+
+      pub end-goes : (router interface : ℕ) → LowestHolder yard (sent .note .destination) router interface
+          → (endOf yard sent ≡ sentOn) × (nextOf yard sent ≡ visit router (arrival (sent .message) (sent .note .destination) interface nearTtl))
+      end-goes router interface h =
+          let is = sym (holder-unique yard (sent .note .destination) (Held router interface) h) in
+          (end-held single ∙ ap endBy is, ap (nextBy sent) is)
 
     -- 102, 103, or it reaches a router
     pub end-on : ((endOf yard sent ≡ toGroup) ⊎ (endOf yard sent ≡ nobodyThere)) ⊎ Reaches yard sent

@@ -36,10 +36,14 @@ pub record LowestHolder (yard : List ℕ) (address router interface : ℕ) : Typ
   pub lowest-here : (k : ℕ) → k < interface → interfaceOf (sheetAt yard router) k .address ≡ address → ⊥
   pub lowest : (i : ℕ) → i < router → HoldsNone (sheetAt yard i) address
 
+-- nobody holds it
+abbrev pub NobodyHolds : List ℕ → ℕ → Type 0
+NobodyHolds yard address = (i : ℕ) → i < routersIn yard → HoldsNone (sheetAt yard i) address
+
 -- what it means that somebody, or nobody, is the lowest router and interface holding an address
 abbrev pub HolderIs : List ℕ → ℕ → Holder → Type 0
 HolderIs yard address (Held router interface) = LowestHolder yard address router interface
-HolderIs yard address Nobody = (i : ℕ) → i < routersIn yard → HoldsNone (sheetAt yard i) address
+HolderIs yard address Nobody = NobodyHolds yard address
 
 -- a run from a visit, with its visits, its end and the last message sent: a visit that ends otherwise than by 100 is the last, and
 -- one that ends by 100 leads to the next

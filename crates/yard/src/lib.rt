@@ -13,31 +13,17 @@ ghost use Rattle.yard.specs.Yard.{sheetSize, mostRouters, routersIn, val
 ghost use Rattle.yard.specs.Walk.{visit, sentFor, sentAt, refusedWalk, walkedOf, walkFrom, Tells, WalkMeets};
 ghost use Rattle.yard.specs.Inside.{Counted, YardChecked, CanEnter, Called, Hopped, Ended};
 
-// The bytes of a router's sheet, and how many routers a yard may have.
+// Bytes of a router's sheet in a yard, and the most routers.
 const SHEET_SIZE: usize = 1024;
 
 const MOST_ROUTERS: usize = 32;
-// No message is longer.
-const MOST: usize = 1472;
-// The bytes of a header, of a recent list and of the engine's record.
-const HEADER_SIZE: usize = 20;
 
-const LIST_SIZE: usize = 196;
-
-const NOTE_SIZE: usize = 16;
-// The type of a Request.
-const REQUEST: u8 = 2;
-// The engine sent a Request on, which arrives with this TTL.
-const SENT_ON: u32 = 100;
-
-const NEAR_TTL: u32 = 255;
-// The ends of a walk besides the engine's.
+// The ends of a walk besides the engine's: sent to a group, and nobody holds the address.
 const TO_GROUP: u32 = 102;
 
 const NOBODY_THERE: u32 = 103;
-// The refusals.
-const WALK_ROOM: u32 = 1;
 
+// The refusals besides room: the yard, the times, the start router, a message of type 2.
 const WALK_YARD: u32 = 21;
 
 const WALK_TIMES: u32 = 22;
@@ -142,8 +128,8 @@ fn ask(
     requires { ⌜ length (now sent) ≡ most ⌝ }
     ensures { λ r. ⌜ Called (sentFor (now (sheet .entry)) time (arrival (now (message .entry)) destination receiving ttl)) (now (sent .entry)) r (now (sent .exit)) ⌝ }
 {
-    let mut recent = [0u8; LIST_SIZE];
-    let mut note = [0u8; NOTE_SIZE];
+    let mut recent = [0u8; recent::LIST_SIZE];
+    let mut note = [0u8; drops::NOTE_SIZE];
     let answer = engine::step(
         message,
         destination,
@@ -205,7 +191,7 @@ fn enter(
         sent,
     );
     let to = c.to;
-    if c.answer != SENT_ON {
+    if c.answer != engine::SENT_ON {
         return ended(c.answer, c);
     }
     if wire::multicast(to) {
@@ -214,7 +200,7 @@ fn enter(
     let holder = holder_in(yard, counts, yard.len() / SHEET_SIZE, to);
     match holder {
         Holder::Held(i, k) => Hop {
-            end: SENT_ON,
+            end: engine::SENT_ON,
             length: c.length,
             to,
             router: i,
@@ -229,7 +215,7 @@ fn count(sent: &[u8]) -> u32
     requires { ⌜ length (now sent) ≤ most ⌝ }
     ensures { λ r. ⌜ r ≡ standardCount (now (sent .entry)) ⌝ }
 {
-    if sent.len() < HEADER_SIZE {
+    if sent.len() < message::HEADER_SIZE {
         return 0;
     }
     let blocks = message::blocks_of(sent);
@@ -268,7 +254,7 @@ fn go(
         (walkFrom (now (yard .entry)) (now (times .entry)) (visit router (arrival (now (message .entry)) destination receiving ttl)))
         (now (output .entry)) r (now (output .exit)) ⌝ }
 {
-    let mut sent = [0u8; MOST];
+    let mut sent = [0u8; message::MOST];
     let h = enter(
         yard,
         counts,
@@ -281,7 +267,7 @@ fn go(
         &mut sent,
     );
     let size = h.length;
-    if h.end != SENT_ON {
+    if h.end != engine::SENT_ON {
         return finish(h.end, &sent[..size], output);
     }
     let w = go(
@@ -292,7 +278,7 @@ fn go(
         &sent[..size],
         h.to,
         h.interface,
-        NEAR_TTL,
+        drops::NEAR_TTL,
         output,
     );
     let steps = w.steps + 1;
@@ -311,7 +297,7 @@ fn is_request(message: &[u8]) -> bool
     if message.len() == 0 {
         return false;
     }
-    message[0] == REQUEST
+    message[0] == message::REQUEST
 }
 
 // Nobody is entered, and nothing is sent.
@@ -343,8 +329,8 @@ pub fn walk(
 {
     let routers = yard.len() / SHEET_SIZE;
     let router = start as usize;
-    if output.len() < MOST {
-        return refuse(WALK_ROOM);
+    if output.len() < message::MOST {
+        return refuse(drops::DROP_ROOM);
     }
     let mut counts = [0usize; MOST_ROUTERS];
     if !yard_ok(yard, &mut counts) {
