@@ -11,22 +11,22 @@ use Rattle.rows.proofs.Tests.{both-of, parts}
 use Rattle.block.specs.Block.{usedIn, entriesRoom, entriesEach, filledOk, frameOk}
 
 -- entries in use fit between the head and the switches
-pub room : (size used : ℕ) → 0 < size → used ≤ entriesEach size → size * used ≤ entriesRoom
-room size used h k = omega (arith, le-div-iff-mul-le h .0 k)
+pub entries-fit : (size used : ℕ) → 0 < size → used ≤ entriesEach size → size * used ≤ entriesRoom
+entries-fit size used h k = omega (arith, le-div-iff-mul-le h .0 k)
 
 -- at least one entry is in use, at most as many as there is room for, and all of these where the block may not be partly filled
-pub record Filled (each : ℕ) (partly : Bool) (used : ℕ) : Type 0 where
+pub record InUse (each : ℕ) (partly : Bool) (used : ℕ) : Type 0 where
   pub some : 1 ≤ used
   pub most : used ≤ each
   pub full : partly ≡ false → used ≡ each
 
-filled : (each : ℕ) (partly : Bool) (used : ℕ) → filledOk each partly used ≡ true → Filled each partly used
+filled : (each : ℕ) (partly : Bool) (used : ℕ) → filledOk each partly used ≡ true → InUse each partly used
 filled each partly used e =
     let p = both-of (leb 1 used && leb used each) (partly || eqb used each) e in
     let q = both-of (leb 1 used) (leb used each) (p .0) in
     record { some = leb-true 1 used (q .0); most = leb-true used each (q .1); full = λ f. eqb-true used each (rw f at (p .1)) }
 
 pub frame-filled : (kind size number : ℕ) (partly : Bool) (b : List ℕ) → frameOk kind size number partly b ≡ true
-    → Filled (entriesEach size) partly (usedIn b)
+    → InUse (entriesEach size) partly (usedIn b)
 unfolding frameOk
 frame-filled kind size number partly b e = filled (entriesEach size) partly (usedIn b) (search parts depth 8)

@@ -8,13 +8,15 @@ use Rattle.wire.specs.Numbers.{byteAt, be16}
 use Rattle.wire.specs.Parts.{part, allZero}
 use Rattle.block.specs.Sum.{sumOk}
 
--- bytes of a block, where its entries begin, and where its switches stand
+-- bytes of a block
 abbrev pub blockSize : ℕ
 blockSize = 512
 
+-- where its entries begin
 abbrev pub entriesAt : ℕ
 entriesAt = 4
 
+-- where its switches stand
 abbrev pub switchesAt : ℕ
 switchesAt = 508
 
@@ -22,16 +24,19 @@ switchesAt = 508
 abbrev pub entriesRoom : ℕ
 entriesRoom = switchesAt - entriesAt
 
--- the fields outside the entries
+-- byte 0: its kind
 abbrev pub kindOf : List ℕ → ℕ
 kindOf b = byteAt b 0
 
+-- byte 1: its entries in use
 abbrev pub usedIn : List ℕ → ℕ
 usedIn b = byteAt b 1
 
+-- bytes 2 and 3: its number
 abbrev pub blockNumber : List ℕ → ℕ
 blockNumber b = be16 b 2
 
+-- its switches
 abbrev pub switchesOf : List ℕ → ℕ
 switchesOf b = be16 b switchesAt
 

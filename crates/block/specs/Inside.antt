@@ -5,16 +5,19 @@ use mathlib.Core.List.{List}
 use Rattle.wire.specs.Numbers.{be32}
 use Rattle.block.specs.Block.{blockSize, switchesAt}
 
--- bytes of a word, the largest word, the words of a block, and the word in which its switches stand
+-- bytes of a word
 abbrev pub wordSize : ℕ
 wordSize = 4
 
+-- the largest word
 abbrev pub mostWord : ℕ
 mostWord = 4294967295
 
+-- the words of a block
 abbrev pub blockWords : ℕ
 blockWords = blockSize / wordSize
 
+-- the word in which its switches stand
 abbrev pub switchesWord : ℕ
 switchesWord = switchesAt / wordSize
 

@@ -1,3 +1,4 @@
--- The demands, each in a line or two that cites its proof, and the worked examples.
-pub mod Worked
-pub mod Demands
+-- x
+pub mod EngineMet
+pub mod ClockMet
+pub mod WalkMet

@@ -33,13 +33,15 @@ routeAt s at =
       stopped = be64 s (at + 48);
     }
 
--- the kinds: source and group, group, source only
+-- kind 1: source and group
 abbrev pub sourceAndGroup : ℕ
 sourceAndGroup = 1
 
+-- kind 2: group
 abbrev pub groupOnly : ℕ
 groupOnly = 2
 
+-- kind 3: source only
 abbrev pub sourceOnly : ℕ
 sourceOnly = 3
 

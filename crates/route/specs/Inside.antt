@@ -12,13 +12,15 @@ use Rattle.sheet.specs.Tables.{routeOf}
 use Rattle.route.specs.declared.Best.{Best}
 use Rattle.route.specs.Choice.{servesBoth, servesGroup, servesSource}
 
--- the lowest rank of kind 3, the rank of kind 2 above all of these, and what kind 1 ranks above: each longer by a bit is one more
+-- the lowest rank of kind 3; each bit of length is one more
 abbrev pub sourceRank : ℕ
 sourceRank = 1
 
+-- the rank of kind 2, above all of kind 3
 abbrev pub groupRank : ℕ
 groupRank = sourceRank + addressBits + 1
 
+-- what kind 1 ranks above
 abbrev pub bothRank : ℕ
 bothRank = groupRank + 1
 
@@ -27,16 +29,19 @@ unfoldable pub rankBy : (Route → Bool) → (Route → Bool) → (Route → Boo
 rankBy both shared sourced r =
     cond (both r) (bothRank + r .length) (cond (shared r) (groupRank + r .length) (cond (sourced r) (sourceRank + r .length) 0))
 
--- kind 1 wants a source and a group; kind 2 wants a group, or no source; kind 3 wants a source
+-- kind 1 wants a source and a group
 abbrev pub asBoth : ℕ → ℕ → Route → Bool
 asBoth source group r = not (allOnes source) && not (allOnes group) && servesBoth source group r
 
+-- kind 2 wants a group, or no source
 abbrev pub asGroup : ℕ → ℕ → Route → Bool
 asGroup source group r = (allOnes source || not (allOnes group)) && servesGroup group r
 
+-- kind 3 wants a source
 abbrev pub asSource : ℕ → Route → Bool
 asSource source r = not (allOnes source) && servesSource source r
 
+-- the rank of a route for a source and a group
 abbrev pub rankOf : ℕ → ℕ → Route → ℕ
 rankOf source group = rankBy (asBoth source group) (asGroup source group) (asSource source)
 

@@ -10,7 +10,7 @@ use lib.Dec.{eqb}
 use lib.ListN.{length}
 use borrow.Author.Tests.{ne-eqb}
 use Rattle.block.specs.Block.{blockSize, entriesRoom, usedIn, entriesEach, placeInBlock}
-use Rattle.block.proofs.Laws.{room, Filled, frame-filled}
+use Rattle.block.proofs.Laws.{entries-fit, InUse, frame-filled}
 use Rattle.sheet.specs.Sheet.{sheetBlock, entriesIn}
 use Rattle.sheet.specs.Tables.{placeOf}
 use Rattle.sheet.proofs.Numbered.{every-one}
@@ -31,7 +31,7 @@ pub record There (s : List ℕ) (size : ℕ) (right : List ℕ → ℕ → Bool)
 
 module _ (s : List ℕ) (kind size : ℕ) (right : List ℕ → ℕ → Bool) (first stop : ℕ) (run : Run s kind size right first stop) (count : ℕ) (end : first + count ≡ stop) (i : ℕ)
     (there : i < entriesIn s (entriesEach size) first count) where
-  filled-at : (k : ℕ) → first ≤ k → k < stop → Filled (entriesEach size) (eqb (k + 1) stop) (usedIn (sheetBlock s k))
+  filled-at : (k : ℕ) → first ≤ k → k < stop → InUse (entriesEach size) (eqb (k + 1) stop) (usedIn (sheetBlock s k))
   filled-at k l h = frame-filled kind size k (eqb (k + 1) stop) (sheetBlock s k) (run .frames k l h)
 
   some-each : 0 < entriesEach size
@@ -69,7 +69,7 @@ module _ (s : List ℕ) (kind size : ℕ) (right : List ℕ → ℕ → Bool) (f
       let j : ℕ = i % entriesEach size in
       let before : k < stop = omega (arith, its-block) in
       let f = filled-at k (omega arith) before in
-      let most : size * (j + 1) ≤ entriesRoom = room size (j + 1) pos (omega (arith, its-entry, f .most)) in
+      let most : size * (j + 1) ≤ entriesRoom = entries-fit size (j + 1) pos (omega (arith, its-entry, f .most)) in
       record {
         rules = every-one (λ n. right (sheetBlock s k) (placeInBlock size n)) (usedIn (sheetBlock s k)) j (run .entries k (omega arith) before) its-entry;
         inside = omega arith;

@@ -8,10 +8,11 @@ use Rattle.entry.specs.Interface.{interfaceAt, interfaceOk}
 use Rattle.entry.specs.Route.{routeAt, routeOk}
 use Rattle.sheet.specs.Every.{every}
 
--- the kinds of blocks: byte 0
+-- the kind of an interface block
 abbrev pub interfaceKind : ℕ
 interfaceKind = 1
 
+-- the kind of a route block
 abbrev pub routeKind : ℕ
 routeKind = 2
 
@@ -23,10 +24,11 @@ prohibits = 1
 abbrev pub switchesOk : ℕ → ℕ → Bool
 switchesOk number switches = eqb switches 0 || (eqb number 0 && eqb switches prohibits)
 
--- the interface, or the route, that begins at a place keeps its rules
+-- the interface that begins at a place keeps its rules
 abbrev pub interfaceRight : List ℕ → ℕ → Bool
 interfaceRight b at = interfaceOk (interfaceAt b at)
 
+-- the route that begins at a place does, among so many interfaces
 abbrev pub routeRight : ℕ → List ℕ → ℕ → Bool
 routeRight interfaces b at = routeOk interfaces (routeAt b at)
 

@@ -21,10 +21,11 @@ mostBlocks = 16
 abbrev pub sheetSizeOk : ℕ → Bool
 sheetSizeOk size = eqb (size % blockSize) 0 && leb 1 (size / blockSize) && leb (size / blockSize) mostBlocks
 
--- how many blocks there are, and block k
+-- how many blocks there are
 abbrev pub blocks : List ℕ → ℕ
 blocks s = length s / blockSize
 
+-- block k
 abbrev pub sheetBlock : List ℕ → ℕ → List ℕ
 sheetBlock s k = part (blockSize * k) blockSize s
 
@@ -41,10 +42,11 @@ interfaceBlocks s = interfaceBlocksIn s (blocks s)
 unfoldable pub entriesIn : List ℕ → ℕ → ℕ → ℕ → ℕ
 entriesIn s each first count = cond (eqb count 0) 0 (each * (count - 1) + usedIn (sheetBlock s (first + (count - 1))))
 
--- how many interfaces, and how many routes, a sheet that keeps the rules has
+-- how many interfaces a sheet that keeps the rules has
 unfoldable pub interfacesIn : List ℕ → ℕ
 interfacesIn s = entriesIn s (entriesEach interfaceSize) 0 (interfaceBlocks s)
 
+-- and how many routes
 unfoldable pub routesIn : List ℕ → ℕ
 routesIn s = entriesIn s (entriesEach routeSize) (interfaceBlocks s) (blocks s - interfaceBlocks s)
 

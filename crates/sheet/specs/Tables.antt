@@ -18,17 +18,19 @@ use Rattle.sheet.specs.declared.tables.Holding.the-variants.{At, Nowhere
 abbrev pub placeOf : ℕ → ℕ → ℕ → ℕ
 placeOf size first i = blockSize * (first + i / entriesEach size) + placeInBlock size (i % entriesEach size)
 
--- interface i and route k
+-- interface i
 unfoldable pub interfaceOf : List ℕ → ℕ → Interface
 interfaceOf s i = interfaceAt s (placeOf interfaceSize 0 i)
 
+-- route k
 unfoldable pub routeOf : List ℕ → ℕ → Route
 routeOf s k = routeAt s (placeOf routeSize (interfaceBlocks s) k)
 
--- all of them, in order
+-- all interfaces, in order
 unfoldable pub interfacesOf : List ℕ → List Interface
 interfacesOf s = listed (interfaceOf s) 0 (layoutOf s .interfaces)
 
+-- all routes, in order
 unfoldable pub routesOf : List ℕ → List Route
 routesOf s = listed (routeOf s) 0 (layoutOf s .routes)
 

@@ -25,10 +25,10 @@ use Rattle.engine.specs.View.{viewWith}
 use Rattle.engine.specs.Answer.{sentOn, sentHome, longerMessage, longerAnswer, sentBy}
 use Rattle.engine.specs.Step.{Outcome, recentAfter, answeredBy, stepOf}
 use Rattle.engine.proofs.Laws.{drop-changes-nothing, taken-is-sent, sent-answer}
-use Rattle.demx.specs.Engine.{Engine, Call, run, message, header, chosen, view, rows, Demand1, BlockOf, ends, replied, passedOn, Demand2, EngineMeets}
+use Rattle.demands.specs.Engine.{Engine, Call, run, message, header, chosen, view, rows, Demand1, BlockOf, ends, replied, passedOn, Demand2, EngineMeets}
 
 -- the block is one, and it is the product's
-block-is : (c : Call) (b : Block) → BlockOf c b → b ≡ blockOf (view c)
+pub block-is : (c : Call) (b : Block) → BlockOf c b → b ≡ blockOf (view c)
 unfolding blockOf viewWith
 block-is c b k =
     let code = noted-is (codes (view c)) (b .code) (k .code) in

@@ -12,7 +12,7 @@ use Rattle.clock.specs.declared.Units.{Units}
 use Rattle.clock.specs.Clock.{lastTime, timeFor, startOf, advanceOf, arrivalOf}
 use Rattle.clock.specs.Unix.{lastSecond, secondNanos, clockUnix, refusedUnits, unixOf}
 use Rattle.clock.proofs.Laws.{always-sound, issues-never-fall, lead-shrinks}
-use Rattle.demy.specs.Clock.{Start, Advance, DemandClock, DemandUnix}
+use Rattle.demands.specs.Clock.{Start, Advance, DemandClock, DemandUnix}
 
 pub clock-meets : DemandClock startOf advanceOf
 unfolding startOf advanceOf timeFor byFirst

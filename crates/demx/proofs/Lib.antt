@@ -1,3 +1,0 @@
--- x
-pub mod EngineMet
-pub mod ClockMet

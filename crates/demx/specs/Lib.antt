@@ -1,3 +1,0 @@
--- x
-pub mod Engine
-pub mod Clock

@@ -1,2 +1,0 @@
--- y
-pub mod ClockMet
