@@ -20,8 +20,7 @@ use Rattle.response.specs.declared.Block.{Block}
 use Rattle.response.specs.Code.{codeNoSpace}
 use Rattle.response.specs.Bytes.{blockBytes}
 use Rattle.message.specs.Format.{most, codeOffset}
-use Rattle.message.specs.Blocks.{standardBlocks, lastCoded}
-use Rattle.message.specs.Room.{Full, HasRoom}
+use Rattle.message.specs.Blocks.{lastCoded}
 use Rattle.drops.specs.Arrival.{arrival}
 use Rattle.drops.specs.Drop.{noteSize, nearTtl}
 use Rattle.drops.proofs.Laws.{drop-numbers}
@@ -29,10 +28,10 @@ use Rattle.engine.specs.Answer.{Sent, sentOn}
 use Rattle.engine.specs.Step.{Outcome, outcome, stepOf}
 use Rattle.yard.specs.Yard.{sheetAt}
 use Rattle.yard.specs.Walk.{toGroup, nobodyThere, Visit, visit, sentAt, endOf, nextOf, Walk, refusedWalk, walkFrom, walkRows, walkOf}
-use Rattle.yard.specs.Faithful.{LowestHolder, NobodyHolds, Run as Walks, run-over, run-on, Starts, blockFor, blockDue, blocksDue}
+use Rattle.yard.specs.Faithful.{LowestHolder, NobodyHolds, Run as Walks, run-over, run-on, Starts, blockDue}
 use Rattle.yard.proofs.Laws.{called, end-not-on, end-group, end-nobody, end-goes, nobody-or-somebody, walk-runs, one-run, not-refused-walks, walk-is-faithful, steps-within}
-use Rattle.demands.specs.Engine.{Engine, Call, run, rows, BlockOf, EngineMeets}
-use Rattle.demands.specs.Walk.{Told, Walker, told, blank, callAt, sent, to, did, Run, stays, group, nobody, goes, nth, lastReceived, Truth, Demand3, WalkMeets}
+use Rattle.demands.specs.Engine.{Engine, rows, BlockOf, EngineMeets}
+use Rattle.demands.specs.Walk.{Told, Walker, told, blank, callAt, sent, to, did, Run, stays, group, nobody, goes, Truth, Demand3, WalkMeets}
 use Rattle.demands.proofs.EngineMet.{block-is, engine-meets, no-other-engine}
 
 -- the product's walk, by its promise
