@@ -5,3 +5,4 @@ pub mod ClockMet
 pub mod WalkMet
 pub mod Opened
 pub mod Worked
+pub mod ShutOut
