@@ -6,3 +6,4 @@ pub mod WalkMet
 pub mod Opened
 pub mod Worked
 pub mod ShutOut
+pub mod Entries
