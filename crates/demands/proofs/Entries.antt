@@ -1,13 +1,21 @@
 -- Of the code: the six entries that a host calls. Each has its own theorem, with no `requires`: on every input it ends, does nothing
 -- undefined, and leaves what its `ensures` says (`Post`), which here is carried to the demands.
-use Prim.Native.Nat.{ℕ, _≤_, _<_}
-use mathlib.Core.Path.{_≡_, sym, ap, subst, _∙_}
-use mathlib.Core.List.{List}
+use Prim.Native.Nat.{ℕ, _+_, _≤_, _<_}
+use mathlib.Core.Path.{_≡_, refl, sym, ap, subst, _∙_}
+use mathlib.Core.List.{List, _++_}
 use denote.Ref.{now}
-use borrow.Author.Tests.{lt-ltb, le-ltb, eq-eqb, ne-eqb}
-use lib.ListN.{length}
-use Rattle.rows.specs.Rows.{byFirst}
+use borrow.Author.Tests.{lt-ltb, le-ltb, eq-eqb, ne-eqb, ltb-true, ltb-false}
+use mathlib.Core.Logic.{⊎-elim}
+use lib.ListN.{length, take}
+use lib.Seq.{take-append-seam}
+use Rattle.rows.specs.Rows.{byFirst, NoneApplies}
+use Rattle.rows.proofs.Tests.{decided}
+use Rattle.wire.specs.Numbers.{be, bytes, be32, bytes32}
 use Rattle.wire.specs.Parts.{splice}
+use Rattle.wire.proofs.Laws.{be-within, splice-front}
+use native.Mathlib.Omega.{arith}
+use native.Mathlib.Nat.{zero-add}
+use lib.Dec.{lit≤}
 use Rattle.clock.specs.declared.Tick.{Tick}
 use Rattle.clock.specs.Clock.{clockOf, startOf, advanceOf, arrivalOf}
 use Rattle.clock.specs.Unix.{unixOf}
@@ -15,7 +23,11 @@ use Rattle.drops.specs.Arrival.{arrival}
 use Rattle.drops.specs.Drop.{dropRoom}
 use Rattle.engine.specs.Answer.{sentHome}
 use Rattle.engine.specs.Step.{Outcome, outcome, stepOf}
-use Rattle.yard.specs.Walk.{Visit, visit, Walk, walkOf, walkedOf}
+use Rattle.yard.specs.Walk.{Visit, visit, Walk, walkRows, walkOf, walkedOf}
+use Rattle.message.specs.Format.{most, standardSize}
+use Rattle.message.specs.Blocks.{standardCount}
+use Rattle.message.specs.Room.{isFull}
+use Rattle.message.proofs.Laws.{standard-blocks-count}
 use Rattle.servicebough.specs.Ticks.{tickSize, tickBytes, TickMeets}
 use Rattle.servicebough.specs.Answers.{Handed, handed, answerLeft, walkedBytes, walkHanded, answerSize}
 use Rattle.servicebough.proofs.bough_clock_start.Statement as clock-start
@@ -36,8 +48,8 @@ use Rattle.servicebough.proofs.bough_engine_step.Reads as engine-step-ensures
 use Rattle.servicebough.proofs.bough_walk.Statement as walk
 use Rattle.servicebough.proofs.bough_walk.Met as walk-proof
 use Rattle.servicebough.proofs.bough_walk.Reads as walk-ensures
-use Rattle.demands.specs.Engine.{Call, run, Demand1, Demand2}
-use Rattle.demands.specs.Walk.{Demand3}
+use Rattle.demands.specs.Engine.{Call, run, rows, Demand1, Demand2}
+use Rattle.demands.specs.Walk.{Told, told, callAt, Run, lastReceived, Truth, Demand3}
 use Rattle.demands.specs.Entries.{HandsTick, HandsWalk}
 use Rattle.demands.proofs.EngineMet.{engine-meets}
 use Rattle.demands.proofs.WalkMet.{walkTold, walk-meets}
@@ -148,3 +160,69 @@ pub walk-is-handed : (κs : _) (a : _) (x : _) (e : _) → walk-ensures.Post κs
 walk-is-handed κs a x e p =
     let v = visit (a .1 .1 .1 .0) (arrival (now (a .1 .1 .0)) (a .1 .1 .1 .1 .1 .0) (a .1 .1 .1 .1 .0) (a .1 .1 .1 .1 .1 .1 .0)) in
     (walk-meets (now (a .0)) (now (a .1 .0)) v (now (a .1 .1 .1 .1 .1 .1 .1 .0)), hands-walk (now (a .0)) (now (a .1 .0)) v (now (a .1 .1 .1 .1 .1 .1 .1 .0)) (now (a .1 .1 .1 .1 .1 .1 .1 .1 .0)) x _ _ p)
+
+-- four numbers of 32 bits, written one behind the other over the first bytes of a list, are read back
+module _ (answer : List ℕ) (room : answerSize ≤ length answer) (a b c d : ℕ) where
+  abbrev four : List ℕ
+  four = bytes32 a ++ bytes32 b ++ bytes32 c ++ bytes32 d
+
+  four-long : length four ≡ answerSize
+  unfolding bytes
+  four-long = refl
+
+  at-place : (k : ℕ) → k + 4 ≤ answerSize → be32 (splice answer 0 four) k ≡ be32 four k
+  at-place k h =
+      ap (be32 (splice answer 0 four)) (sym (zero-add k)) ∙ be-within answer 0 four (omega (arith, four-long)) 2 k (omega (arith, four-long))
+
+  read-back : a < 4294967296 → b < 4294967296 → c < 4294967296 → d < 4294967296
+      → (be32 (splice answer 0 four) 0 ≡ a) × (be32 (splice answer 0 four) 4 ≡ b) × (be32 (splice answer 0 four) 8 ≡ c) × (be32 (splice answer 0 four) 12 ≡ d)
+  unfolding be bytes
+  read-back ha hb hc hd = (
+    at-place 0 (lit≤ tt) ∙ omega arith,
+    at-place 4 (lit≤ tt) ∙ omega arith,
+    at-place 8 (lit≤ tt) ∙ omega arith,
+    at-place 12 (lit≤ tt) ∙ omega arith,
+  )
+
+-- of a walk that is not refused and that its first router accepts: the 16 bytes say its end, its steps, its blocks and the length of its
+-- last message, which stands in the output; and all that demand 3 says of them is true
+pub record AnswerTells (yard times : List ℕ) (v : Visit) (visits : List Visit) (end : ℕ) (last output answer : List ℕ) : Type 0 where
+  pub says-end : be32 answer 0 ≡ end
+  pub says-steps : be32 answer 4 ≡ length visits
+  pub says-blocks : be32 answer 8 ≡ standardCount last
+  pub says-length : be32 answer 12 ≡ length last
+  pub sends : take (length last) output ≡ last
+  pub truth : Truth yard times v visits end last
+
+module _ (yard times : List ℕ) (v : Visit) (output answer : List ℕ) (number : ℕ) (output′ answer′ : List ℕ) (room : answerSize ≤ length answer)
+    (hands : HandsWalk (walkTold yard times v output) output answer number output′ answer′) (none : NoneApplies (walkRows yard times v (length output)))
+    (accepts : NoneApplies (rows (callAt yard times v))) (visits : List Visit) (end : ℕ) (last : List ℕ) (is : Run stepOf yard times v visits end last) where
+  tells : walkTold yard times v output ≡ told end (length visits) last output
+  tells = walk-meets yard times v output .walks visits end last none is
+
+  true : Truth yard times v visits end last
+  true = walk-meets yard times v output .tells-truth visits end last none accepts is
+
+  comes-home : sentHome ≤ end
+  comes-home = ⊎-elim (λ e. omega arith) (λ e. ⊎-elim (λ f. omega arith) (λ f. omega arith) e) (true .ends)
+
+  few-blocks : standardCount last ≤ length visits
+  few-blocks =
+      ⊎-elim (λ e. omega (arith, true .count-full (ltb-true most (length (lastReceived yard times v visits end last) + standardSize) e), standard-blocks-count last))
+      (λ e. omega (arith, true .count (ltb-false most (length (lastReceived yard times v visits end last) + standardSize) e), standard-blocks-count last))
+      (decided (isFull (lastReceived yard times v visits end last)))
+
+  pub answer-tells : AnswerTells yard times v visits end last output′ answer′
+  answer-tells =
+      let given = subst (λ (t : Told). HandsWalk t output answer number output′ answer′) tells hands in
+      let read = read-back answer room end (length visits) (standardCount last) (length last) (⊎-elim (λ e. omega arith) (λ e. ⊎-elim (λ f. omega arith) (λ f. omega arith) e) (true .ends)) (omega (arith, true .by-room)) (omega (arith, few-blocks, true .by-room)) (omega (arith, true .by-size)) in
+      let out = given .ends room .1 in
+      let bytes = given .answers room comes-home in
+      record {
+        says-end = rw bytes (read .0);
+        says-steps = rw bytes (read .1);
+        says-blocks = rw bytes (read .2);
+        says-length = rw bytes (read .3);
+        sends = rw (out, splice-front) (take-append-seam last _);
+        truth = true;
+      }

@@ -7,3 +7,4 @@ pub mod Opened
 pub mod Worked
 pub mod ShutOut
 pub mod Entries
+pub mod Demands

@@ -17,9 +17,9 @@ use Rattle.clock.specs.Readings.{Sound}
 use Rattle.message.specs.Format.{most, codeOffset}
 use Rattle.message.specs.Blocks.{standardBlocks}
 use Rattle.message.specs.Room.{HasRoom}
-use Rattle.drops.specs.Drop.{lastDrop}
+use Rattle.drops.specs.Drop.{dropSheet, lastDrop}
 use Rattle.engine.specs.Answer.{sentOn, sentHome}
-use Rattle.engine.specs.Step.{Outcome, stepOf}
+use Rattle.engine.specs.Step.{Outcome, outcome, stepOf}
 use Rattle.yard.specs.Yard.{routersIn}
 use Rattle.yard.specs.Walk.{Visit}
 use Rattle.demands.specs.Engine.{Engine, Call, run, message, rows, EngineMeets}
@@ -72,6 +72,11 @@ types : (byteAt (run stepOf ten .output) 0 ≡ 2) × (byteAt (run stepOf one .ou
 unfolding opened asked ten one
 types = (refl, refl)
 
+-- where it sends P1's Request and P4's Reply to: upstream, and the client
+sent-to : (be32 (run stepOf ten .note) 2 ≡ address 198 51 100 2) × (be32 (run stepOf one .note) 2 ≡ address 192 0 2 50)
+unfolding opened asked ten one
+sent-to = (refl, refl)
+
 shown : codeIn stranger (run stepOf stranger) ≡ codeIn lost (run stepOf lost)
 unfolding opened asked stranger lost
 shown = refl
@@ -116,6 +121,12 @@ module _ (engine : Engine) (meets : EngineMeets engine) where
   pub writes-nothing : ((c : Call) → NoneApplies (rows c) → run engine c .output ≡ c .output) → ⊥
   writes-nothing wrong = omega (arith, ap front (wrong ten (accepted ten (passes .0))), type ten, types .0, lent .0)
 
+  -- one that sends all it sends to one place
+  pub sends-astray : (place : ℕ) → ((c : Call) → NoneApplies (rows c) → be32 (run engine c .note) 2 ≡ place) → ⊥
+  sends-astray place wrong =
+      let goes : (c : Call) → be32 (run engine c .note) 2 ≡ be32 (run stepOf c .note) 2 = λ c. ap (λ (o : Outcome). be32 (o .note) 2) (same c) in
+      omega (arith, wrong ten (accepted ten (passes .0)), wrong one (accepted one (passes .1)), goes ten, goes one, sent-to)
+
   -- one that ends on the code shown, by whatever rule
   pub ends-on-the-code : (rule : ℕ → ℕ) → ((c : Call) → NoneApplies (rows c) → HasRoom (message c) → run engine c .answer ≡ rule (codeIn c (run engine c))) → ⊥
   ends-on-the-code rule wrong =
@@ -124,6 +135,16 @@ module _ (engine : Engine) (meets : EngineMeets engine) where
       ap rule (code stranger ∙ shown ∙ sym (code lost)) in
       omega
       (arith, wrong stranger (accepted stranger (passes .2)) (roomy .0), wrong lost (accepted lost (passes .3)) (roomy .1), answer stranger, answer lost, answers)
+
+-- such engines as they would be written: by 3; a copy sent on; 101 and nothing written
+pub drops-by-3 : EngineMeets (λ a time sheet recent output note. outcome dropSheet recent output note) → ⊥
+drops-by-3 meets = drops-everything _ meets (λ c none. lit≤ tt)
+
+pub copies : EngineMeets (λ a time sheet recent output note. outcome sentOn recent (splice output 0 (a .message)) note) → ⊥
+copies meets = copies-its-input _ meets (λ c none. refl)
+
+pub answers-alone : EngineMeets (λ a time sheet recent output note. outcome sentHome recent output note) → ⊥
+answers-alone meets = writes-nothing _ meets (λ c none. refl)
 
 -- the walks of P1, P4 and P2
 abbrev at : Walker → ℕ → ℕ → Told
@@ -165,6 +186,10 @@ module _ (engine : Engine) (walk : Walker) (meets : EngineMeets engine) (walks :
       let there : 1 < length (toldBlocks (at walk 0 10)) = rw is (omega (arith, blocks .0)) in
       let alike = rw is at (wrong (twoRouters 0) twoTimes (startWith (paperQuery 10)) (blank most) 0 there) in
       omega (arith, ap (λ (b : List ℕ). be32 b 12) alike, blocks .1, blocks .2)
+
+  -- one that stops at its first router
+  pub stops-at-the-first : ((yard times : List ℕ) (v : Visit) (output : List ℕ) → walk yard times v output .answer .steps ≤ 1) → ⊥
+  stops-at-the-first wrong = omega (arith, wrong (twoRouters 0) twoTimes (startWith (paperQuery 10)) (blank most), steps-of 0 10, steps .0)
 
   -- one with an invented number of steps
   pub invents-its-steps : (k : ℕ) → ((yard times : List ℕ) (v : Visit) (output : List ℕ) → walk yard times v output .answer .steps ≡ k) → ⊥

@@ -10,10 +10,14 @@ use Rattle.wire.specs.Numbers.{byteAt, be32}
 use Rattle.clock.specs.Clock.{startOf, arrivalOf}
 use Rattle.clock.specs.Unix.{unixOf}
 use Rattle.clock.specs.Readings.{Issue, issues}
-use Rattle.message.specs.Format.{codeOffset}
+use Rattle.message.specs.Format.{codeOffset, most}
 use Rattle.message.specs.Blocks.{standards, standardCount}
-use Rattle.yard.specs.Walk.{Walk}
-use Rattle.demands.specs.Example.{address, traced}
+use Rattle.rows.specs.Rows.{NoneApplies}
+use Rattle.rows.proofs.Laws.{zero-none}
+use Rattle.yard.specs.Walk.{Visit, Walk, walkRows}
+use Rattle.demands.specs.Engine.{rows}
+use Rattle.demands.specs.Walk.{callAt}
+use Rattle.demands.specs.Example.{address, twoRouters, twoTimes, paperQuery, startWith, traced}
 use Rattle.demands.proofs.Opened.{opened}
 
 -- an example: its number, what the definitions give, what the paper says
@@ -74,3 +78,11 @@ examples =
 pub worked : failing examples ≡ []
 unfolding opened examples
 worked = refl
+
+-- P1's trace is not refused, and its first router accepts it
+abbrev p1 : Visit
+p1 = startWith (paperQuery 10)
+
+pub starts : NoneApplies (walkRows (twoRouters 0) twoTimes p1 most) × NoneApplies (rows (callAt (twoRouters 0) twoTimes p1))
+unfolding opened
+starts = (zero-none (walkRows (twoRouters 0) twoTimes p1 most) refl refl, zero-none (rows (callAt (twoRouters 0) twoTimes p1)) refl refl)
