@@ -15,7 +15,7 @@ use Rattle.recent.specs.Layout.{wellFormed}
 use Rattle.recent.specs.Entries.{seenIn}
 use Rattle.sheet.specs.Sheet.{layoutOf}
 use Rattle.sheet.specs.Tables.{holderOf}
-use Rattle.message.specs.Format.{most}
+use Rattle.message.specs.Format.{most, noteSize}
 use Rattle.message.specs.Header.{headerOf}
 use Rattle.message.specs.Blocks.{standardCount}
 use Rattle.message.specs.Room.{isFull, hopsUsed}
@@ -24,7 +24,7 @@ use Rattle.drops.specs.declared.Verdict.{Verdict}
 use Rattle.drops.specs.Inside.{dropVerdict, passVerdict, verdictOf}
 use Rattle.message.proofs.Laws.{Accepted, none-applies, applies-none, full-has-standard}
 use Rattle.drops.specs.Arrival.{Arrival, isQuery, isRequest, lastHopFor}
-use Rattle.drops.specs.Drop.{dropRoom, dropState, dropSheet, dropIface, dropDest, dropNear, dropCount, dropSeen, dropLastHop, lastDrop, noteSize, nearTtl, isHeld, lendingRows, deliveryRows, routeRows, table, dropOf}
+use Rattle.drops.specs.Drop.{dropRoom, dropState, dropSheet, dropIface, dropDest, dropNear, dropCount, dropSeen, dropLastHop, lastDrop, nearTtl, isHeld, lendingRows, deliveryRows, routeRows, table, dropOf}
 
 module _ (a : Arrival) (sheet recent : List ℕ) (output note : ℕ) where
   -- every number of the table is one of 1 to 19

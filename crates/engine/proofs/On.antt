@@ -27,12 +27,12 @@ use Rattle.response.specs.declared.View.{View}
 use Rattle.response.specs.declared.Incoming.{Incoming}
 use Rattle.response.specs.Fill.{allRouters, upstreamOf, blockOf, endsTrace}
 use Rattle.response.specs.Bytes.{blockBytes}
-use Rattle.message.specs.Format.{most, query, request, standardSize}
+use Rattle.message.specs.Format.{most, query, request, standardSize, noteSize}
 use Rattle.message.specs.Header.{headerOf, retyped}
 use Rattle.message.specs.Blocks.{standardCount}
 use Rattle.message.proofs.Laws.{standards-fit, Accepted, accepted-kinds, accepted-query, sent-header, sent-count, sent-accepted}
 use Rattle.drops.specs.Arrival.{Arrival, arrival, routeFor}
-use Rattle.drops.specs.Drop.{noteSize, nearTtl, table}
+use Rattle.drops.specs.Drop.{nearTtl, table}
 use Rattle.engine.specs.View.{viewWith, viewOf}
 use Rattle.engine.specs.Answer.{Sent, sentOn, on, noteOn, longerMessage, sentBy}
 use Rattle.rows.specs.Rows.{NoneApplies}
