@@ -1,14 +1,13 @@
 -- The product's engine meets demands 1 and 2, and they leave no choice: whatever meets them gives its outcome in every call.
 use Prim.Native.Nat.{ℕ, _+_}
 use mathlib.Core.Bool.{Bool, true, false}
-use mathlib.Core.List.{List, _++_}
+use mathlib.Core.List.{_++_}
 use mathlib.Core.Logic.{⊎-elim}
 use mathlib.Core.Path.{_≡_, refl, sym, _∙_}
 use native.Mathlib.Omega.{arith}
 use borrow.Author.Tests.{le-ltb, lt-ltb, ltb-true, ltb-false}
-use lib.Dec.{ltb}
 use lib.ListN.{length, set}
-use Rattle.rows.specs.Rows.{firstOf, NoneApplies, IsFirst}
+use Rattle.rows.specs.Rows.{firstOf, NoneApplies}
 use Rattle.rows.proofs.Laws.{first-or-none, noted, noted-is}
 use Rattle.entry.specs.declared.route.Route.{Route}
 use Rattle.route.specs.declared.Chosen.{Chosen}
@@ -20,9 +19,8 @@ use Rattle.response.specs.Bytes.{blockBytes}
 use Rattle.message.specs.Format.{most, request, reply, standardSize, codeOffset}
 use Rattle.message.specs.Blocks.{lastStandard}
 use Rattle.message.specs.Room.{isFull, Full, HasRoom}
-use Rattle.drops.specs.Arrival.{Arrival}
 use Rattle.engine.specs.View.{viewWith}
-use Rattle.engine.specs.Answer.{sentOn, sentHome, longerMessage, longerAnswer, sentBy}
+use Rattle.engine.specs.Answer.{longerMessage, longerAnswer, sentBy}
 use Rattle.engine.specs.Step.{Outcome, recentAfter, answeredBy, stepOf}
 use Rattle.engine.proofs.Laws.{drop-changes-nothing, taken-is-sent, sent-answer}
 use Rattle.demands.specs.Engine.{Engine, Call, run, message, header, chosen, view, rows, Demand1, BlockOf, ends, replied, passedOn, Demand2, EngineMeets}

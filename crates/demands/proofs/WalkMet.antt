@@ -1,6 +1,6 @@
 -- The product's walk meets demand 3, and with demands 1 and 2 that leaves no choice. A run by the bytes that the engine leaves is a
 -- run of the walk's definition, visit by visit, and the other way round.
-use Prim.Native.Nat.{ℕ, zero, suc, _-_, _<_}
+use Prim.Native.Nat.{ℕ, zero, suc, _-_, _≤_, _<_}
 use mathlib.Core.Bool.{true, false}
 use mathlib.Core.List.{List, [], _∷_, map}
 use mathlib.Core.Logic.{inl, ⊎-elim}
@@ -20,8 +20,7 @@ use Rattle.response.specs.declared.Block.{Block}
 use Rattle.response.specs.Code.{codeNoSpace}
 use Rattle.response.specs.Bytes.{blockBytes}
 use Rattle.message.specs.Format.{most, codeOffset}
-use Rattle.message.specs.Blocks.{standardBlocks, lastCoded}
-use Rattle.message.specs.Room.{Full, HasRoom}
+use Rattle.message.specs.Blocks.{lastCoded}
 use Rattle.drops.specs.Arrival.{arrival}
 use Rattle.drops.specs.Drop.{nearTtl}
 use Rattle.message.specs.Format.{noteSize}
@@ -30,10 +29,10 @@ use Rattle.engine.specs.Answer.{Sent, sentOn}
 use Rattle.engine.specs.Step.{Outcome, outcome, stepOf}
 use Rattle.yard.specs.Yard.{sheetAt}
 use Rattle.yard.specs.Walk.{toGroup, nobodyThere, Visit, visit, sentAt, endOf, nextOf, Walk, refusedWalk, walkFrom, walkRows, walkOf}
-use Rattle.yard.specs.Faithful.{LowestHolder, NobodyHolds, Run as Walks, run-over, run-on, Starts, blockFor, blockDue, blocksDue}
-use Rattle.yard.proofs.Laws.{called, end-not-on, end-group, end-nobody, end-goes, nobody-or-somebody, walk-runs, one-run, not-refused-walks, walk-is-faithful, steps-within}
-use Rattle.demands.specs.Engine.{Engine, Call, run, rows, BlockOf, EngineMeets}
-use Rattle.demands.specs.Walk.{Told, Walker, told, blank, callAt, sent, to, did, Run, stays, group, nobody, goes, nth, lastReceived, Truth, Demand3, WalkMeets}
+use Rattle.yard.specs.Faithful.{LowestHolder, NobodyHolds, Run as Walks, run-over, run-on, Starts, blockDue}
+use Rattle.yard.proofs.Laws.{called, sent-short, end-not-on, end-group, end-nobody, end-goes, nobody-or-somebody, walk-runs, one-run, not-refused-walks, walk-is-faithful, steps-within}
+use Rattle.demands.specs.Engine.{Engine, rows, BlockOf, EngineMeets}
+use Rattle.demands.specs.Walk.{Told, Walker, told, blank, callAt, sent, to, did, Run, stays, group, nobody, goes, Truth, Demand3, WalkMeets}
 use Rattle.demands.proofs.EngineMet.{block-is, engine-meets, no-other-engine}
 
 -- the product's walk, by its promise
@@ -173,6 +172,10 @@ runs-some : (yard times : List ℕ) {v : Visit} {vs : List Visit} {end : ℕ} {l
 runs-some yard times (run-over off) = omega arith
 runs-some yard times (run-on on r) = omega arith
 
+runs-short : (yard times : List ℕ) {v : Visit} {vs : List Visit} {end : ℕ} {last : List ℕ} → Walks yard times v vs end last → length last ≤ most
+runs-short yard times (run-over {v = v} off) = sent-short yard times v
+runs-short yard times (run-on on r) = runs-short yard times r
+
 -- the truth of the product's walk, where it is not refused and its first router accepts
 module _ (yard times : List ℕ) (v : Visit) (output : ℕ) (s : Starts yard times v output) where
   abbrev w : Walk
@@ -213,6 +216,7 @@ module _ (yard times : List ℕ) (v : Visit) (output : ℕ) (s : Starts yard tim
         by-hops = f .steps;
         by-room = steps-within yard times v output;
         ends = f .end;
+        by-size = runs-short yard times (rw (← not-refused-walks yard times v output (s .not-refused)) at (walk-runs yard times v));
         none-drops = λ k h. rw (blank-length most, blank-length noteSize) (f .accepts k h);
         count = λ room. rw (f .with-room room) (length-map visits (blockDue yard times));
         count-full = λ full. rw (f .without-room full, long) last-there;

@@ -2,4 +2,5 @@
 pub mod Engine
 pub mod Clock
 pub mod Walk
+pub mod Entries
 pub mod Example

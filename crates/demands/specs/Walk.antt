@@ -98,6 +98,8 @@ module _ (yard times : List ℕ) (v : Visit) (visits : List Visit) (end : ℕ) (
     pub by-hops : length visits ≤ headerOf (v .arrival .message) .hops
     pub by-room : length visits ≤ 28
     pub ends : (end ≡ sentHome) ⊎ ((end ≡ toGroup) ⊎ (end ≡ nobodyThere))
+    -- the last message sent has at most 1472 bytes
+    pub by-size : length last ≤ most
     -- no router drops what it receives
     pub none-drops : (k : ℕ) → k < length visits → NoneApplies (rows (callAt yard times (nth k)))
     -- a block for each router, where the last had room; else for each but the last

@@ -8,4 +8,4 @@ pub use Rattle.yard.proofs.Runs.{walk-runs, one-run}
 pub use Rattle.yard.proofs.Holders.{Somebody, nobody-or-somebody}
 -- a call of the engine by its promise, and what becomes of what it sent
 pub use Rattle.yard.proofs.Calls.{called}
-pub use Rattle.yard.proofs.Turns.{end-not-on, end-group, end-nobody, end-goes}
+pub use Rattle.yard.proofs.Turns.{sent-short, end-not-on, end-group, end-nobody, end-goes}

@@ -1,0 +1,88 @@
+-- The worked examples of document 01, P1 to P8, shown of the definitions by one statement over one list, which the checker
+-- computes.
+use Prim.Native.Nat.{ℕ, _+_, _-_}
+use mathlib.Core.Bool.{Bool, true, false, cond, _&&_}
+use mathlib.Core.List.{List, [], _∷_, _++_, map}
+use mathlib.Core.Path.{_≡_, refl}
+use lib.Dec.{eqb}
+use lib.ListN.{length}
+use Rattle.wire.specs.Numbers.{byteAt, be32}
+use Rattle.clock.specs.Clock.{startOf, arrivalOf}
+use Rattle.clock.specs.Unix.{unixOf}
+use Rattle.clock.specs.Readings.{Issue, issues}
+use Rattle.message.specs.Format.{codeOffset, most}
+use Rattle.message.specs.Blocks.{standards, standardCount}
+use Rattle.rows.specs.Rows.{NoneApplies}
+use Rattle.rows.proofs.Laws.{zero-none}
+use Rattle.yard.specs.Walk.{Visit, Walk, walkRows}
+use Rattle.demands.specs.Engine.{rows}
+use Rattle.demands.specs.Walk.{callAt}
+use Rattle.demands.specs.Example.{address, twoRouters, twoTimes, paperQuery, startWith, traced}
+use Rattle.demands.proofs.Opened.{opened}
+
+-- an example: its number, what the definitions give, what the paper says
+pub record Example : Type 0 where
+  pub number : ℕ
+  pub got : List ℕ
+  pub said : List ℕ
+
+abbrev pub example : ℕ → List ℕ → List ℕ → Example
+example number got said = record { number = number; got = got; said = said }
+
+abbrev pub same : List ℕ → List ℕ → Bool
+same [] [] = true
+same [] (y ∷ ys) = false
+same (x ∷ xs) [] = false
+same (x ∷ xs) (y ∷ ys) = eqb x y && same xs ys
+
+-- the numbers of the examples that fail
+abbrev pub failing : List Example → List ℕ
+failing [] = []
+failing (e ∷ es) = let rest = failing es in let here = e .number ∷ rest in cond (same (e .got) (e .said)) rest here
+
+-- of a walk: its end and steps, the blocks and the length of the last message
+abbrev pub told : Walk → List ℕ
+told w = w .end ∷ length (w .visits) ∷ standardCount (w .last) ∷ length (w .last) ∷ []
+
+-- of the last message: its codes; and its lines, outgoing, incoming and upstream address and code of each block
+abbrev pub codes : Walk → List ℕ
+codes w = map (λ (at : ℕ). byteAt (w .last) (at + codeOffset)) (standards (w .last))
+
+abbrev pub linesAt : List ℕ → List ℕ → List ℕ
+linesAt m [] = []
+linesAt m (at ∷ places) = be32 m (at + 12) ∷ be32 m (at + 8) ∷ be32 m (at + 16) ∷ byteAt m (at + codeOffset) ∷ linesAt m places
+
+abbrev pub lines : Walk → List ℕ
+lines w = linesAt (w .last) (standards (w .last))
+
+-- P1 the walk as printed. P2 router 1's upstream made 198.51.100.1. P3 the same with hops 255, and its last code. P4 hops 1,
+-- P5 hops 0. P6 a clock from 1000. P7 UNIX 0, low 32 bits. P8 the parts that 999999999 ns give
+unfoldable pub examples : List Example
+examples =
+    let loop = address 198 51 100 1 in
+    let full = traced loop 255 in
+    example 1 (told (traced 0 10) ++ lines (traced 0 10))
+    (101 ∷ 2 ∷ 2 ∷ 124
+    ∷ address 192 0 2 1 ∷ address 198 51 100 1 ∷ address 198 51 100 2 ∷ 0
+    ∷ address 198 51 100 2 ∷ address 203 0 113 1 ∷ 0 ∷ 0 ∷ [])
+    ∷ example 2 (told (traced loop 10) ++ codes (traced loop 10)) (101 ∷ 10 ∷ 10 ∷ 540 ∷ 0 ∷ 0 ∷ 9 ∷ 0 ∷ 9 ∷ 0 ∷ 9 ∷ 0 ∷ 9 ∷ 0 ∷ [])
+    ∷ example 3 (told full ++ (byteAt (full .last) 1423 ∷ [])) (101 ∷ 28 ∷ 27 ∷ 1424 ∷ 129 ∷ [])
+    ∷ example 4 (told (traced loop 1)) (101 ∷ 1 ∷ 1 ∷ 72 ∷ [])
+    ∷ example 5 (told (traced loop 0)) (8 ∷ 1 ∷ 0 ∷ 0 ∷ [])
+    ∷ example 6 (map (λ (i : Issue). i .time) (issues (startOf 1000 .clock) (1010 ∷ 1000 ∷ 1004 ∷ 1016 ∷ 1024 ∷ [])))
+    (1010 ∷ 1010 ∷ 1012 ∷ 1018 ∷ 1024 ∷ [])
+    ∷ example 7 (arrivalOf (unixOf 0 0 .units) ∷ []) (2122317824 ∷ [])
+    ∷ example 8 ((unixOf 0 999999999 .units - unixOf 0 0 .units) ∷ []) (65535 ∷ [])
+    ∷ []
+
+pub worked : failing examples ≡ []
+unfolding opened examples
+worked = refl
+
+-- P1's trace is not refused, and its first router accepts it
+abbrev p1 : Visit
+p1 = startWith (paperQuery 10)
+
+pub starts : NoneApplies (walkRows (twoRouters 0) twoTimes p1 most) × NoneApplies (rows (callAt (twoRouters 0) twoTimes p1))
+unfolding opened
+starts = (zero-none (walkRows (twoRouters 0) twoTimes p1 most) refl refl, zero-none (rows (callAt (twoRouters 0) twoTimes p1)) refl refl)
