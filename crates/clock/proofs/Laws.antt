@@ -3,13 +3,12 @@
 use Prim.Native.Nat.{ℕ, _-_, _≤_, _<_}
 use mathlib.Core.Bool.{cond}
 use mathlib.Core.List.{List, [], _∷_}
-use mathlib.Core.Logic.{⊎-elim}
 use mathlib.Core.Path.{_≡_, refl, sym, subst}
 use native.Mathlib.Omega.{arith}
 use lib.Dec.{leb, ltb, eqb}
 use borrow.Author.Tests.{ltb-true, ltb-false, leb-true, eqb-true, le-ltb, ne-eqb}
-use Rattle.rows.specs.Rows.{Row, byFirst, NoneApplies, IsFirst}
-use Rattle.rows.proofs.Laws.{first-or-none, none-is, first-is, first-passes}
+use Rattle.rows.specs.Rows.{NoneApplies}
+use Rattle.rows.proofs.Laws.{none-is, by-rows, first-passes}
 use Rattle.rows.proofs.Tests.{neither-of, cond-cases}
 use Rattle.clock.specs.declared.Clock.{Clock}
 use Rattle.clock.specs.declared.Tick.{Tick}
@@ -18,19 +17,13 @@ use Rattle.clock.specs.Clock.{lastTime, clockOf, issued, refusedTick, ti
 use Rattle.clock.specs.Unix.{clockUnix, unitsFor, unixRows, converted, refusedUnits, unixOf}
 use Rattle.clock.specs.Readings.{after, issues, Sound, Rising, Shrunk, NeverFall, afterBy, issuesBy}
 
--- what holds of each way out of a table holds of what the table comes to
-by-rows : {A : Type 0} (P : A → Type 0) (given : ℕ → A) (other : A) (rs : List Row)
-    → ((n : ℕ) → IsFirst rs n → P (given n)) → (NoneApplies rs → P other) → P (byFirst given other rs)
-by-rows P given other rs some none =
-    ⊎-elim (λ f. rw (first-is given other rs _ f) (some _ f)) (λ n. rw (none-is given other rs n) (none n)) (first-or-none rs)
-
 -- y never falls
-pub time-never-falls : (c : Clock) (t : ℕ) → Sound c → c .y ≤ timeFor c t
+time-never-falls : (c : Clock) (t : ℕ) → Sound c → c .y ≤ timeFor c t
 unfolding timeFor
 time-never-falls c t s = cond-cases (λ (n : ℕ). c .y ≤ n) (ltb t (c .r)) _ _ (λ e. omega arith) (λ e. omega arith)
 
 -- the clock that a reading in range comes to is sound: the time issued is at least the reading, and in range
-pub time-leads : (c : Clock) (t : ℕ) → Sound c → t ≤ lastTime → Sound (clockOf t (timeFor c t))
+time-leads : (c : Clock) (t : ℕ) → Sound c → t ≤ lastTime → Sound (clockOf t (timeFor c t))
 unfolding timeFor
 time-leads c t s h =
     cond-cases (λ (n : ℕ). Sound (clockOf t n)) (ltb t (c .r)) _ _
@@ -38,7 +31,7 @@ time-leads c t s h =
     (λ e. record { leads = omega arith; within = omega arith })
 
 -- one reading that does not fall: the lead shrinks by at least half of the advance, and stops at 0
-pub lead-falls : (c : Clock) (t : ℕ) → Sound c → c .r ≤ t → t ≤ lastTime → Shrunk c (clockOf t (timeFor c t))
+lead-falls : (c : Clock) (t : ℕ) → Sound c → c .r ≤ t → t ≤ lastTime → Shrunk c (clockOf t (timeFor c t))
 unfolding timeFor
 lead-falls c t s h l = rw (le-ltb t (c .r) h) (omega arith, omega arith)
 
@@ -56,7 +49,7 @@ by-answer : (P : Tick → Type 0) (c : Clock) (t : ℕ) → ((n : ℕ) → 0 < n
     → (Sound c → t ≤ lastTime → P (issued t (timeFor c t))) → P (advanceOf c t)
 unfolding advanceOf
 by-answer P c t no-way way =
-    by-rows P _ _ (advanceRows c t) (λ n f. no-way n (leb-true 1 n (first-passes (leb 1) (advanceRows c t) n refl f)))
+    by-rows _ _ P (advanceRows c t) (λ n f. no-way n (leb-true 1 n (first-passes (leb 1) (advanceRows c t) n refl f)))
     (λ none. let both = passed-rows c t none in way (both .0) (both .1))
 
 -- a sound clock issues a time for every reading in range
@@ -65,13 +58,13 @@ unfolding advanceOf
 accepts c t s h = none-is _ _ (advanceRows c t) (not-refused c t s h)
 
 -- a clock that is started is sound, and it stays so whatever the reading
-pub starts-sound : (t : ℕ) → Sound (startOf t .clock)
+starts-sound : (t : ℕ) → Sound (startOf t .clock)
 unfolding startOf
 starts-sound t =
-    by-rows (λ (k : Tick). Sound (k .clock)) _ _ (startRows t) (λ n f. record { leads = omega arith; within = omega arith })
+    by-rows _ _ (λ (k : Tick). Sound (k .clock)) (startRows t) (λ n f. record { leads = omega arith; within = omega arith })
     (λ none. record { leads = omega arith; within = ltb-false _ _ (none .0) })
 
-pub stays-sound : (c : Clock) (t : ℕ) → Sound c → Sound (advanceOf c t .clock)
+stays-sound : (c : Clock) (t : ℕ) → Sound c → Sound (advanceOf c t .clock)
 stays-sound c t s = by-answer (λ (k : Tick). Sound (k .clock)) c t (λ n h. s) (time-leads c t)
 
 after-sound : (ts : List ℕ) (c : Clock) → Sound c → Sound (after c ts)
@@ -115,7 +108,7 @@ lead-shrinks (t ∷ ts) c s u =
 pub unix-zero : (s n : ℕ) → (unixOf s n .number ≡ clockUnix → unixOf s n .units ≡ 0) × (unixOf s n .units ≡ 0 → unixOf s n .number ≡ clockUnix)
 unfolding unixOf
 unix-zero s n =
-    by-rows (λ (u : Units). (u .number ≡ clockUnix → u .units ≡ 0) × (u .units ≡ 0 → u .number ≡ clockUnix))
-    refusedUnits (converted (unitsFor s n)) (unixRows s n)
+    by-rows refusedUnits (converted (unitsFor s n))
+    (λ (u : Units). (u .number ≡ clockUnix → u .units ≡ 0) × (u .units ≡ 0 → u .number ≡ clockUnix)) (unixRows s n)
     (λ k f. (λ e. refl, λ z. eqb-true k clockUnix (first-passes (λ m. eqb m clockUnix) (unixRows s n) k refl f)))
     (λ none. (λ e. absurd (omega arith), λ z. absurd (omega arith)))

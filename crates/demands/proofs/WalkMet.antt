@@ -22,7 +22,8 @@ use Rattle.response.specs.Bytes.{blockBytes}
 use Rattle.message.specs.Format.{most, codeOffset}
 use Rattle.message.specs.Blocks.{lastCoded}
 use Rattle.drops.specs.Arrival.{arrival}
-use Rattle.drops.specs.Drop.{noteSize, nearTtl}
+use Rattle.drops.specs.Drop.{nearTtl}
+use Rattle.message.specs.Format.{noteSize}
 use Rattle.drops.proofs.Laws.{drop-numbers}
 use Rattle.engine.specs.Answer.{Sent, sentOn}
 use Rattle.engine.specs.Step.{Outcome, outcome, stepOf}

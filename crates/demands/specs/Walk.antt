@@ -19,7 +19,8 @@ use Rattle.message.specs.Header.{headerOf}
 use Rattle.message.specs.Blocks.{standardCount, standardBlocks}
 use Rattle.message.specs.Room.{Full, HasRoom}
 use Rattle.drops.specs.Arrival.{arrival}
-use Rattle.drops.specs.Drop.{noteSize, nearTtl}
+use Rattle.drops.specs.Drop.{nearTtl}
+use Rattle.message.specs.Format.{noteSize}
 use Rattle.engine.specs.Answer.{sentOn, sentHome}
 use Rattle.engine.specs.Step.{Outcome}
 use Rattle.yard.specs.declared.Walked.{Walked}

@@ -9,13 +9,13 @@ use lib.Dec.{leb, ltb, eqb}
 use borrow.Author.Tests.{le-ltb, lt-leb, ne-eqb, ltb-true, ltb-false, leb-false, not-false}
 use Rattle.rows.specs.Rows.{Row, firstOf, NoneApplies, IsFirst}
 use Rattle.rows.proofs.Tests.{decided, neither-of}
-use Rattle.rows.proofs.Laws.{first-or-none, none-is, first-is, some-first, zero-none, none-zero, first-at-most, appliesAt, none-at, none-joined, none-split}
+use Rattle.rows.proofs.Laws.{none-is, number-kept, some-first, zero-none, first-at-most, appliesAt, none-at, none-joined, none-split}
 use Rattle.wire.specs.Addresses.{linkScoped}
 use Rattle.recent.specs.Layout.{wellFormed}
 use Rattle.recent.specs.Entries.{seenIn}
 use Rattle.sheet.specs.Sheet.{layoutOf}
 use Rattle.sheet.specs.Tables.{holderOf}
-use Rattle.message.specs.Format.{most}
+use Rattle.message.specs.Format.{most, noteSize}
 use Rattle.message.specs.Header.{headerOf}
 use Rattle.message.specs.Blocks.{standardCount}
 use Rattle.message.specs.Room.{isFull, hopsUsed}
@@ -24,11 +24,11 @@ use Rattle.drops.specs.declared.Verdict.{Verdict}
 use Rattle.drops.specs.Inside.{dropVerdict, passVerdict, verdictOf}
 use Rattle.message.proofs.Laws.{Accepted, none-applies, applies-none, full-has-standard}
 use Rattle.drops.specs.Arrival.{Arrival, isQuery, isRequest, lastHopFor}
-use Rattle.drops.specs.Drop.{dropRoom, dropState, dropSheet, dropIface, dropDest, dropNear, dropCount, dropSeen, dropLastHop, lastDrop, noteSize, nearTtl, isHeld, lendingRows, deliveryRows, routeRows, table, dropOf}
+use Rattle.drops.specs.Drop.{dropRoom, dropState, dropSheet, dropIface, dropDest, dropNear, dropCount, dropSeen, dropLastHop, lastDrop, nearTtl, isHeld, lendingRows, deliveryRows, routeRows, table, dropOf}
 
 module _ (a : Arrival) (sheet recent : List ℕ) (output note : ℕ) where
   -- every number of the table is one of 1 to 19
-  pub zero-passes : dropOf a sheet recent output note ≡ 0 → NoneApplies (table a sheet recent output note)
+  zero-passes : dropOf a sheet recent output note ≡ 0 → NoneApplies (table a sheet recent output note)
   unfolding table lendingRows messageRows headerRows deliveryRows routeRows
   zero-passes = zero-none (table a sheet recent output note) refl
 
@@ -112,9 +112,7 @@ module _ (a : Arrival) (sheet recent : List ℕ) (output note : ℕ) (v : Verdic
   unfolding verdictOf dropVerdict passVerdict
   number-is =
       let number : Verdict → ℕ = λ (x : Verdict). x .number in
-      ⊎-elim (λ f. ap number (told ∙ first-is dropVerdict pass rows (firstOf rows) f))
-      (λ none. ap number (told ∙ none-is dropVerdict pass rows none) ∙ sym (none-zero rows none))
-      (first-or-none rows)
+      ap number told ∙ number-kept dropVerdict pass number rows (λ n. refl) refl
 
   pub verdict-first : (v .number ≡ 0 → ⊥) → IsFirst rows (v .number)
   verdict-first some = rw number-is (some-first rows (λ z. some (number-is ∙ z)))

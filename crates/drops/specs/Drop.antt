@@ -14,7 +14,7 @@ use Rattle.sheet.specs.declared.tables.Holding.the-variants.{At, Nowhere}
 use Rattle.sheet.specs.Sheet.{layoutOf}
 use Rattle.sheet.specs.Tables.{holderOf}
 use Rattle.message.specs.declared.Header.{Header}
-use Rattle.message.specs.Format.{most}
+use Rattle.message.specs.Format.{most, noteSize}
 use Rattle.message.specs.Header.{headerOf}
 use Rattle.message.specs.Blocks.{standardCount}
 use Rattle.message.specs.Room.{isFull, hopsUsed}
@@ -55,10 +55,6 @@ dropNoPrev = 19
 -- the last of them
 abbrev pub lastDrop : ℕ
 lastDrop = dropNoPrev
-
--- bytes of an answer record
-abbrev pub noteSize : ℕ
-noteSize = 16
 
 -- the TTL with which a Request comes from a neighbour
 abbrev pub nearTtl : ℕ

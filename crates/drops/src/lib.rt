@@ -15,9 +15,6 @@ ghost use Rattle.rows.specs.Rows.{firstOf};
 ghost use Rattle.drops.specs.Drop.{isHeld, lendingRows, deliveryRows, routeRows};
 ghost use Rattle.drops.specs.Inside.{dropVerdict, routedOf, verdictOf};
 
-// Bytes of an answer record.
-pub const NOTE_SIZE: usize = 16;
-
 // The TTL with which a Request comes from a neighbour.
 pub const NEAR_TTL: u32 = 255;
 
@@ -55,7 +52,7 @@ pub struct Verdict {
 fn lending_row(output: usize, note: usize, recent: &[u8], layout: Layout, receiving: u32) -> u32
     ensures { λ r. ⌜ r ≡ firstOf (lendingRows output note (now (recent .entry)) layout receiving) ⌝ }
 {
-    if (output < message::MOST) | (note < NOTE_SIZE) {
+    if (output < message::MOST) | (note < message::NOTE_SIZE) {
         return DROP_ROOM;
     }
     if !recent::check(recent) {

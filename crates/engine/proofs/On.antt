@@ -11,7 +11,7 @@ use borrow.Author.Tests.{lt-leb, leb-false, ne-eqb, eq-eqb, eqb-false}
 use lib.Dec.{leb, eqb, lit≤}
 use lib.ListN.{length}
 use Rattle.wire.specs.Addresses.{unicast, allOnes}
-use Rattle.rows.proofs.Tests.{decided}
+use Rattle.rows.proofs.Tests.{decided, neither-of}
 use Rattle.recent.specs.Entries.{empty}
 use Rattle.recent.proofs.Laws.{empty-well-formed}
 use Rattle.entry.specs.Route.{isRp}
@@ -27,12 +27,12 @@ use Rattle.response.specs.declared.View.{View}
 use Rattle.response.specs.declared.Incoming.{Incoming}
 use Rattle.response.specs.Fill.{allRouters, upstreamOf, blockOf, endsTrace}
 use Rattle.response.specs.Bytes.{blockBytes}
-use Rattle.message.specs.Format.{most, query, request, standardSize}
+use Rattle.message.specs.Format.{most, query, request, standardSize, noteSize}
 use Rattle.message.specs.Header.{headerOf, retyped}
-use Rattle.message.specs.Blocks.{standardCount, lastStandard}
-use Rattle.message.proofs.Laws.{standards-fit, Accepted, accepted-kinds, accepted-query, sent-header, sent-count, sent-last, sent-accepted}
+use Rattle.message.specs.Blocks.{standardCount}
+use Rattle.message.proofs.Laws.{standards-fit, Accepted, accepted-kinds, accepted-query, sent-header, sent-count, sent-accepted}
 use Rattle.drops.specs.Arrival.{Arrival, arrival, routeFor}
-use Rattle.drops.specs.Drop.{noteSize, nearTtl, table}
+use Rattle.drops.specs.Drop.{nearTtl, table}
 use Rattle.engine.specs.View.{viewWith, viewOf}
 use Rattle.engine.specs.Answer.{Sent, sentOn, on, noteOn, longerMessage, sentBy}
 use Rattle.rows.specs.Rows.{NoneApplies}
@@ -60,18 +60,14 @@ record Onward (v : View) (blocks hops : ℕ) : Type 0 where
   upstream : route .upstream ≡ 0 → ⊥
   fewer : blocks ≡ hops → ⊥
 
-neither : (t u : Bool) → (t || u) ≡ false → (t ≡ false) × (u ≡ false)
-neither true u e = let z : _≡_ {A = ℕ} 0 1 = cc in absurd (omega arith)
-neither false u e = (refl, e)
-
 onward : (v : View) (blocks hops : ℕ) → endsTrace v blocks hops ≡ false → Onward v blocks hops
 unfolding endsTrace
 onward v blocks hops e = by-choice (v .chosen) refl where
   by-choice : (w : Chosen) → v .chosen ≡ w → Onward v blocks hops
   by-choice Nothing q = let t : _≡_ {A = Bool} true false = rw q at e in let z : _≡_ {A = ℕ} 0 1 = cc in absurd (omega arith)
   by-choice (Found r) q =
-      let p = neither (v .prohibited || isRp r || eqb (r .upstream) 0) (eqb blocks hops) (rw q at e) in
-      let u = neither (v .prohibited || isRp r) (eqb (r .upstream) 0) (p .0) in
+      let p = neither-of (v .prohibited || isRp r || eqb (r .upstream) 0) (eqb blocks hops) (rw q at e) in
+      let u = neither-of (v .prohibited || isRp r) (eqb (r .upstream) 0) (p .0) in
       record { route = r; chosen = q; upstream = eqb-false (r .upstream) 0 (u .1); fewer = eqb-false blocks hops (p .1) }
 
 -- it goes upstream: to a unicast address, or to 224.0.0.2
@@ -90,10 +86,7 @@ pub record Grown (a : Arrival) (time : ℕ) (sheet : List ℕ) (s : Sent) : Type
   pub room : HasRoom (a .message)
   pub message : s .message ≡ longerMessage request (a .message) (blockOf (viewOf a time sheet))
   pub long : length (s .message) ≡ length (a .message) + standardSize
-  pub noted : s .note .length ≡ length (s .message)
   pub header : headerOf (s .message) ≡ retyped request (headerOf (a .message))
-  pub count : standardCount (s .message) ≡ standardCount (a .message) + 1
-  pub last : lastStandard (s .message) ≡ length (a .message)
   pub few : hopsUsed (s .message) < headerOf (s .message) .hops
   pub falls : hopsLeft (a .message) ≡ suc (hopsLeft (s .message))
   pub accepts : Accepted (s .message)
@@ -122,10 +115,7 @@ module _ (a : Arrival) (time : ℕ) (sheet recent : List ℕ) (output note : ℕ
         room = room;
         message = refl;
         long = longer-length request m b;
-        noted = rw (o .chosen);
         header = header;
-        count = count;
-        last = rw as-sent (sent-last m (t .message) (blockBytes b) (block-standard b) request);
         few = rw (count, header) few;
         falls = rw (count, header) (omega arith);
         accepts = rw as-sent (sent-accepted m (t .message) (blockBytes b) (block-standard b) room);

@@ -12,12 +12,11 @@ use Rattle.sheet.specs.Tables.{interfaceOf}
 use Rattle.response.specs.declared.View.{View}
 use Rattle.response.specs.Inside.{RouteFits}
 use Rattle.message.specs.declared.Header.{Header}
-use Rattle.message.specs.Format.{headerSize, most, standardSize}
+use Rattle.message.specs.Format.{headerSize, most, standardSize, noteSize}
 use Rattle.message.specs.Header.{headerOf}
 use Rattle.message.specs.Blocks.{lastStandard}
 use Rattle.message.specs.Check.{blocksSeen}
 use Rattle.drops.specs.declared.Verdict.{Verdict}
-use Rattle.drops.specs.Drop.{noteSize}
 use Rattle.message.specs.Room.{isFull, Full, HasRoom, hopsUsed}
 use Rattle.drops.specs.Inside.{passVerdict}
 use Rattle.entry.specs.Route.{unknown}

@@ -14,10 +14,9 @@ ghost use Rattle.wire.specs.Parts.{splice};
 ghost use Rattle.recent.specs.Inside.{Formed};
 ghost use Rattle.sheet.specs.Sheet.{layoutOf};
 ghost use Rattle.response.specs.Code.{codeNoSpace};
-ghost use Rattle.message.specs.Format.{most, reply, standardSize, codeOffset};
+ghost use Rattle.message.specs.Format.{most, reply, standardSize, codeOffset, noteSize};
 ghost use Rattle.response.specs.Bytes.{noteBytes};
 ghost use Rattle.drops.specs.Arrival.{arrival};
-ghost use Rattle.drops.specs.Drop.{noteSize};
 ghost use Rattle.engine.specs.View.{incomingFor, viewWith};
 ghost use Rattle.engine.specs.Answer.{noteHome, noteOn, home, fullMessage, longerMessage, longerAnswer};
 ghost use Rattle.engine.specs.Inside.{RouteThere, Written, WithRoom, WithoutRoom, Ready, answered};
@@ -29,12 +28,9 @@ pub const SENT_ON: u32 = 100;
 pub const SENT_HOME: u32 = 101;
 
 // The UDP port that routers listen on, and the interface of a Reply.
-const PORT: u16 = 33435;
+const MTRACE_PORT: u16 = 33435;
 
 const ANY_INTERFACE: u16 = 65535;
-
-// The incoming interface of a route that does not know it.
-const UNKNOWN: u16 = 65535;
 
 // The incoming interface that the route chosen names.
 fn incoming_for(sheet: &[u8], chosen: Chosen) -> Incoming
@@ -43,7 +39,7 @@ fn incoming_for(sheet: &[u8], chosen: Chosen) -> Incoming
 {
     match chosen {
         Chosen::Found(r) => {
-            if r.incoming == UNKNOWN {
+            if r.incoming == entry::UNKNOWN {
                 return Incoming::Unknown;
             }
             Incoming::Known(sheet::interface(sheet, r.incoming as usize))
@@ -59,7 +55,7 @@ fn write_full(message: &[u8], last: usize, output: &mut [u8])
 {
     wire::copy_to(output, 0, message);
     output[0] = message::REPLY;
-    output[last + message::CODE_OFFSET] = response::NO_SPACE;
+    output[last + message::CODE_OFFSET] = response::CODE_NO_SPACE;
 }
 
 // The message with its type, and a block behind it.
@@ -115,7 +111,7 @@ fn note_on(chosen: Chosen, incoming: Incoming, size: usize) -> Note
         Chosen::Found(r) => Note {
             length: size as u16,
             destination: response::upstream(r),
-            port: PORT,
+            port: MTRACE_PORT,
             interface: r.incoming,
             source: response::address_of(incoming),
         },

@@ -10,6 +10,7 @@ pub use interface::interface_at;
 pub use interface::interface_ok;
 pub use interface::is_boundary;
 pub use interface::is_multicast;
+pub use prefix::ADDRESS_BITS;
 pub use prefix::same_prefix;
 pub use route::GROUP_ONLY;
 pub use route::ROUTE_SIZE;

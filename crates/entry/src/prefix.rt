@@ -6,9 +6,6 @@ ghost use Rattle.entry.specs.Prefix.{addressBits, hosts, samePrefix, zer
 // Bits of an address.
 pub const ADDRESS_BITS: u8 = 32;
 
-// The address of ones alone.
-const ONES: u32 = 4294967295;
-
 // Ones in the first bits. No bits have a line of their own, where the shift would be as wide as an address.
 fn mask(bits: u8) -> u32
     requires { ⌜ bits ≤ addressBits ⌝ }
@@ -17,7 +14,7 @@ fn mask(bits: u8) -> u32
     if bits == 0 {
         return 0;
     }
-    ONES << (ADDRESS_BITS - bits)
+    wire::ALL_ONES << (ADDRESS_BITS - bits)
 }
 
 // Whether the first bits of two addresses agree.

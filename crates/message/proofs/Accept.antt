@@ -18,7 +18,7 @@ use Rattle.message.specs.Header.{headerOf, queryOrRequest, rightLength, 
 use Rattle.message.specs.Blocks.{Placed, blocksOf, standardPlaces, standards, standardCount, fillsMessage, standardFirst, requestForm, rightForm}
 use Rattle.message.specs.Check.{dropSize, dropType, dropHeader, dropHops, dropGroup, dropSource, dropPair, dropClient, dropBlocks, headerRows, messageRows, refusedMessage, acceptedMessage, checkOf}
 use Rattle.rows.specs.Rows.{NoneApplies, firstOf}
-use Rattle.rows.proofs.Laws.{first-or-none, none-is, first-is, zero-none, none-zero, appliesAt, none-at}
+use Rattle.rows.proofs.Laws.{none-is, number-kept, zero-none, appliesAt, none-at}
 use Rattle.message.proofs.Turns.{standard-more}
 use Rattle.message.proofs.Append.{query-alone, request-formed}
 
@@ -75,11 +75,8 @@ module _ (s : List ℕ) (c : Checked) (answer : c ≡ checkOf s) where
   pub check-number : c .number ≡ firstOf (messageRows s)
   unfolding checkOf acceptedMessage refusedMessage
   check-number =
-      let told : Checked → ℕ = λ (x : Checked). x .number in
-      let rows = messageRows s in
-      ⊎-elim (λ f. ap told (answer ∙ first-is refusedMessage (acceptedMessage s) rows (firstOf rows) f))
-      (λ none. ap told (answer ∙ none-is refusedMessage (acceptedMessage s) rows none) ∙ sym (none-zero rows none))
-      (first-or-none (messageRows s))
+      let number : Checked → ℕ = λ (x : Checked). x .number in
+      ap number answer ∙ number-kept refusedMessage (acceptedMessage s) number (messageRows s) (λ n. refl) refl
 
   module _ (passes : c .number ≡ 0) where
     none : NoneApplies (messageRows s)

@@ -4,8 +4,7 @@
 pub use Rattle.message.proofs.Accept.{Accepted, none-applies, applies-none, check-number, check-accepts, accepts-as, accepted-kinds, accepted-query, full-has-standard}
 -- where its type 4 blocks stand
 pub use Rattle.message.proofs.Standards.{standards-fit, last-high}
--- what a router sends: a type 4 block appended and a type written, or a code written into the last type 4 block
-pub use Rattle.message.proofs.Sent.{sent-header, sent-count, sent-last, sent-accepted}
-pub use Rattle.message.proofs.Write.{typed-standards, coded-standards}
+-- what a router sends: a type 4 block appended and a type written
+pub use Rattle.message.proofs.Sent.{sent-header, sent-count, sent-accepted}
 -- the type 4 blocks as bytes, of what is sent
 pub use Rattle.message.proofs.Bytes.{standard-blocks-count, sent-standard-blocks, coded-standard-blocks}

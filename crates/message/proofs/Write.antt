@@ -14,9 +14,9 @@ use Rattle.wire.proofs.Laws.{be-same}
 use Rattle.message.specs.Format.{headerSize, query, standard, standardSize, codeOffset}
 use Rattle.message.specs.Header.{headerOf, retyped}
 use Rattle.message.specs.Blocks.{placedAt, begins, blocksFrom, blocksOf, standards, standardCount, standardAt, lastStandard, blocksEnd, fillsMessage, requestForm, rightForm}
-use Rattle.message.proofs.Fields.{same-but-type, same-header}
+use Rattle.message.proofs.Fields.{same-but-type}
 use Rattle.message.proofs.Cut.{begun, block-first}
-use Rattle.message.proofs.Standards.{by-standard, last-is, last-low}
+use Rattle.message.proofs.Standards.{by-standard, last-is}
 
 -- a number of which the byte written is none
 be-untouched : (d : ℕ) (s : List ℕ) (at v j : ℕ) → ((k : ℕ) → k < 2 ^ d → j + k ≡ at → ⊥) → be d (set s at v) j ≡ be d s j
@@ -102,10 +102,6 @@ module _ (j v : ℕ) (behind : 3 ≤ j) (within : j < standardSize) where
       let place : p + j ≡ headerSize + (p - headerSize + j) = omega (arith, g .low) in
       rw (place, drop-set-add headerSize s (p - headerSize + j) v) (g .kept)
 
--- a byte behind the header
-pub written-header : (s : List ℕ) (at v : ℕ) → headerSize ≤ at → headerOf (set s at v) ≡ headerOf s
-written-header s at v h = same-header s (set s at v) (λ j l. getD-set-other s at j v 0 (λ e. omega arith))
-
 -- the forwarding code of the last type 4 block
 module _ (s : List ℕ) (v : ℕ) (some : 0 < standardCount s) where
   pub coded-blocks : blocksOf (set s (lastStandard s + codeOffset) v) ≡ blocksOf s
@@ -114,9 +110,3 @@ module _ (s : List ℕ) (v : ℕ) (some : 0 < standardCount s) where
 
   pub coded-standards : standards (set s (lastStandard s + codeOffset) v) ≡ standards s
   coded-standards = same-standards s (set s (lastStandard s + codeOffset) v) coded-blocks (length-set s (lastStandard s + codeOffset) v)
-
-  pub coded-request-form : requestForm (set s (lastStandard s + codeOffset) v) ≡ requestForm s
-  coded-request-form = same-request-form s (set s (lastStandard s + codeOffset) v) coded-blocks (length-set s (lastStandard s + codeOffset) v)
-
-  pub coded-header : headerOf (set s (lastStandard s + codeOffset) v) ≡ headerOf s
-  coded-header = written-header s (lastStandard s + codeOffset) v (omega (arith, last-low s some))

@@ -34,6 +34,9 @@ const AUGMENTED_LEAST: usize = 8;
 
 const AUGMENTED_UNIT: usize = 4;
 
+// Bytes of the answer record that goes with a message sent.
+pub const NOTE_SIZE: usize = 16;
+
 // A block has at least its type and its length.
 const BLOCK_HEAD: usize = 3;
 

@@ -4,7 +4,7 @@ use mathlib.Core.Bool.{true}
 use mathlib.Core.Path.{_≡_, refl}
 use lib.ListN.{length}
 use Rattle.wire.specs.Numbers.{bytes}
-use Rattle.message.specs.Format.{standardSize}
+use Rattle.message.specs.Format.{standardSize, noteSize}
 use Rattle.route.specs.declared.Chosen.the-variants.{Nothing}
 use Rattle.response.specs.declared.View.{View}
 use Rattle.response.specs.declared.Block.{Block}
@@ -27,6 +27,6 @@ pub block-length : (b : Block) → length (blockBytes b) ≡ standardSize
 unfolding blockBytes bytes
 block-length b = refl
 
-pub note-length : (n : Note) → length (noteBytes n) ≡ 16
+pub note-length : (n : Note) → length (noteBytes n) ≡ noteSize
 unfolding noteBytes bytes
 note-length n = refl

@@ -1,10 +1,11 @@
 -- A law for each way out of a function: what its tests showed and what its callees answered, and the definition's answer.
 use Prim.Native.Nat.{ℕ, _+_, _≤_, _<_}
-use mathlib.Core.Bool.{Bool, true, false, _||_, cond}
+use mathlib.Core.Bool.{Bool, true, false, _||_}
 use mathlib.Core.Path.{_≡_, refl, sym, ap, subst, _∙_}
 use native.Mathlib.Omega.{arith}
 use lib.Dec.{eqb}
 use Rattle.rows.proofs.Tests.{cond-cases}
+use Rattle.entry.specs.Prefix.{addressBits}
 use Rattle.entry.specs.Route.{isRp, groupOnly}
 use Rattle.entry.specs.declared.route.Route.{Route}
 use Rattle.route.specs.declared.Chosen.{Chosen}
@@ -14,7 +15,7 @@ use Rattle.response.specs.declared.Filled.{Filled}
 use Rattle.rows.specs.Rows.{byFirst, firstOf}
 use Rattle.response.specs.Code.{codeWrongLastHop, codeNoRoute, wrongLastHop, codesFor, codes, codeOf}
 use Rattle.response.specs.Inside.{RouteFits}
-use Rattle.response.specs.Fill.{sOf, maskOf, filledOf, unfilled, fillFor, endsTrace}
+use Rattle.response.specs.Fill.{noSourceMask, maskOf, sOf, sBit, sAndMask, filledOf, unfilled, fillFor, endsTrace}
 
 module _ (v : View) (r : Route) (found : v .chosen ≡ Found r) where
   pub code-found : (code : ℕ) → code ≡ firstOf (codesFor v (Found r)) → code ≡ codeOf v
@@ -28,7 +29,7 @@ module _ (v : View) (r : Route) (found : v .chosen ≡ Found r) where
   pub fill-found : (f : Filled) → v .prohibited ≡ false → f ≡ filledOf r (v .incoming) → f ≡ fillFor v (v .chosen)
   fill-found f shut e = e ∙ subst (λ (w : Chosen). filledOf r (v .incoming) ≡ fillFor v w) (sym found) (rw shut)
 
-  pub fits-found : RouteFits (v .chosen) → r .length ≤ 32
+  pub fits-found : RouteFits (v .chosen) → r .length ≤ addressBits
   fits-found fits = rw found at fits
 
 module _ (v : View) (none : v .chosen ≡ Nothing) where
@@ -56,12 +57,12 @@ pub fill-shut : (v : View) (f : Filled) → v .prohibited ≡ true → f ≡ unf
 fill-shut v f e q = q ∙ shut-fill v (v .chosen) e
 
 module _ (r : Route) (n : ℕ) (mask : n ≡ maskOf r) where
-  pub s-set : sOf r ≡ true → 128 + n ≡ cond (sOf r) (128 + maskOf r) (maskOf r)
+  pub s-set : sOf r ≡ true → sBit + n ≡ sAndMask r
   s-set e = rw (e, mask)
 
-  pub s-clear : sOf r ≡ false → n ≡ cond (sOf r) (128 + maskOf r) (maskOf r)
+  pub s-clear : sOf r ≡ false → n ≡ sAndMask r
   s-clear e = rw (e, mask)
 
-  pub mask-fits : r .length ≤ 32 → 128 + n < 256
+  pub mask-fits : r .length ≤ addressBits → sBit + n < 256
   mask-fits short =
-      rw mask (cond-cases (λ (k : ℕ). 128 + k < 256) (eqb (r .kind) groupOnly) 127 (r .length) (λ e. omega arith) (λ e. omega arith))
+      rw mask (cond-cases (λ (k : ℕ). sBit + k < 256) (eqb (r .kind) groupOnly) noSourceMask (r .length) (λ e. omega arith) (λ e. omega arith))

@@ -57,9 +57,13 @@ codeAdminProhib = 131
 abbrev pub wrongLastHop : View → Bool
 wrongLastHop v = v .query && not (v .proper)
 
+-- the first octet of the groups that a boundary keeps in: 239.0.0.0/8
+abbrev pub scopedOctet : ℕ
+scopedOctet = 239
+
 -- the group is in 239.0.0.0/8, and there is a boundary on the receiving or the incoming interface
 abbrev pub scoped : View → Bool
-scoped v = eqb (firstOctet (v .group)) 239 && (isBoundary (v .here) || boundaryOn (v .incoming))
+scoped v = eqb (firstOctet (v .group)) scopedOctet && (isBoundary (v .here) || boundaryOn (v .incoming))
 
 -- there is no route
 abbrev pub missing : Chosen → Bool

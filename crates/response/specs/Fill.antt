@@ -3,6 +3,7 @@ use Prim.Native.Nat.{ℕ, _+_}
 use mathlib.Core.Bool.{Bool, true, _&&_, _||_, cond}
 use lib.Dec.{ltb, eqb}
 use Rattle.wire.specs.Addresses.{allOnes}
+use Rattle.entry.specs.Prefix.{addressBits}
 use Rattle.entry.specs.Route.{sourceAndGroup, groupOnly, sourceOnly, isRp}
 use Rattle.entry.specs.declared.route.Route.{Route}
 use Rattle.route.specs.declared.Chosen.{Chosen}
@@ -26,13 +27,25 @@ upstreamOf r = cond (allOnes (r .upstream)) allRouters (r .upstream)
 abbrev pub totalOf : Route → ℕ
 totalOf r = cond (eqb (r .kind) sourceOnly) notCounted (r .packets)
 
+-- the mask of a route without a source
+abbrev pub noSourceMask : ℕ
+noSourceMask = 127
+
 -- the source length; 127 for kind 2
 abbrev pub maskOf : Route → ℕ
-maskOf r = cond (eqb (r .kind) groupOnly) 127 (r .length)
+maskOf r = cond (eqb (r .kind) groupOnly) noSourceMask (r .length)
 
 -- S: 1 for kind 2, and for kind 1 under length 32
 abbrev pub sOf : Route → Bool
-sOf r = eqb (r .kind) groupOnly || (eqb (r .kind) sourceAndGroup && ltb (r .length) 32)
+sOf r = eqb (r .kind) groupOnly || (eqb (r .kind) sourceAndGroup && ltb (r .length) addressBits)
+
+-- S stands before the 7 bits of the mask
+abbrev pub sBit : ℕ
+sBit = 128
+
+-- S and the mask, as one byte
+abbrev pub sAndMask : Route → ℕ
+sAndMask r = cond (sOf r) (sBit + maskOf r) (maskOf r)
 
 -- filled from the route
 unfoldable pub filledOf : Route → Incoming → Filled
@@ -44,7 +57,7 @@ filledOf r i =
       total = totalOf r;
       protocol = r .protocol;
       multicast = r .multicast;
-      mask = cond (sOf r) (128 + maskOf r) (maskOf r);
+      mask = sAndMask r;
     }
 
 -- all of it 0

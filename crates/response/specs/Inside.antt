@@ -4,6 +4,7 @@ use Prim.Native.Nat.{_≤_}
 use mathlib.Core.List.{List}
 use lib.ListN.{drop}
 use Rattle.rows.specs.Rows.{Row}
+use Rattle.entry.specs.Prefix.{addressBits}
 use Rattle.entry.specs.declared.route.Route.{Route}
 use Rattle.response.specs.declared.View.{View}
 use Rattle.response.specs.Code.{codesFor}
@@ -17,4 +18,4 @@ lateCodes v r = drop 7 (codesFor v (Found r))
 -- a route's source length is at most 32, as in every valid sheet, so that S and mask fit their byte
 abbrev pub RouteFits : Chosen → Type 0
 RouteFits Nothing = Unit {0}
-RouteFits (Found r) = r .length ≤ 32
+RouteFits (Found r) = r .length ≤ addressBits

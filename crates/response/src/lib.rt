@@ -4,43 +4,58 @@ use entry::Interface;
 use entry::Route;
 use route::Chosen;
 ghost use mathlib.Core.Path.{_≡_};
-ghost use mathlib.Core.Bool.{cond};
 ghost use Prim.Native.Nat.{_+_, _≤_, _<_};
+ghost use Rattle.entry.specs.Prefix.{addressBits};
 ghost use Rattle.entry.specs.Interface.{mostInterfaces};
 ghost use Rattle.route.specs.declared.Chosen.the-variants.{Found};
 ghost use Rattle.response.specs.View.{boundaryOn, addressOf, inputOf};
 ghost use Rattle.rows.specs.Rows.{firstOf};
 ghost use Rattle.response.specs.Code.{scoped, codesFor, codeOf};
-ghost use Rattle.response.specs.Fill.{upstreamOf, totalOf, maskOf, sOf, filledOf, unfilled, fillFor, blockOf, endsTrace};
+ghost use Rattle.response.specs.Fill.{upstreamOf, totalOf, maskOf, sAndMask, filledOf, unfilled, fillFor, blockOf, endsTrace};
 ghost use Rattle.response.specs.Inside.{lateCodes, RouteFits};
 ghost use Rattle.response.specs.Bytes.{blockBytes, noteBytes};
 
 // The forwarding codes.
-const NO_ERROR: u8 = 0;
+const CODE_NO_ERROR: u8 = 0;
 
-const WRONG_IF: u8 = 1;
+const CODE_WRONG_IF: u8 = 1;
 
-const PRUNE_SENT: u8 = 2;
+const CODE_PRUNE_SENT: u8 = 2;
 
-const PRUNE_RCVD: u8 = 3;
+const CODE_PRUNE_RCVD: u8 = 3;
 
-const SCOPED: u8 = 4;
+const CODE_SCOPED: u8 = 4;
 
-const NO_ROUTE: u8 = 5;
+const CODE_NO_ROUTE: u8 = 5;
 
-const WRONG_LAST_HOP: u8 = 6;
+const CODE_WRONG_LAST_HOP: u8 = 6;
 
-const NOT_FORWARDING: u8 = 7;
+const CODE_NOT_FORWARDING: u8 = 7;
 
-const REACHED_RP: u8 = 8;
+const CODE_REACHED_RP: u8 = 8;
 
-const RPF_IF: u8 = 9;
+const CODE_RPF_IF: u8 = 9;
 
-const NO_MULTICAST: u8 = 10;
+const CODE_NO_MULTICAST: u8 = 10;
 
-const ADMIN_PROHIB: u8 = 131;
+const CODE_ADMIN_PROHIB: u8 = 131;
 
-pub const NO_SPACE: u8 = 129;
+pub const CODE_NO_SPACE: u8 = 129;
+
+// The first octet of the groups that a boundary keeps in: 239.0.0.0/8.
+const SCOPED_OCTET: u32 = 239;
+
+// 224.0.0.2, all routers of the link.
+const ALL_ROUTERS: u32 = 3758096386;
+
+// All ones in a count of 64 bits: not counted.
+const NOT_COUNTED: u64 = 18446744073709551615;
+
+// The mask of a route without a source.
+const NO_SOURCE_MASK: u8 = 127;
+
+// S, beside the mask.
+const S_BIT: u8 = 128;
 
 // The incoming interface of the route chosen, where it is known.
 pub enum Incoming {
@@ -104,7 +119,8 @@ fn in_scope(v: View) -> bool
     ensures { λ r. ⌜ r ≡ scoped v ⌝ }
 {
     let incoming = v.incoming;
-    (v.group / 16777216 == 239) & (entry::is_boundary(v.here) | boundary_on(incoming))
+    (v.group / wire::FIRST_OCTET == SCOPED_OCTET)
+        & (entry::is_boundary(v.here) | boundary_on(incoming))
 }
 
 // The first code from SCOPED on that applies, where a route was chosen.
@@ -114,18 +130,18 @@ fn late_code(v: View, r: Route) -> u8
 {
     let number = v.number as usize;
     if in_scope(v) {
-        return SCOPED;
+        return CODE_SCOPED;
     }
     if entry::prune_sent(r) {
-        return PRUNE_SENT;
+        return CODE_PRUNE_SENT;
     }
     if entry::in_map(r.pruned, number) {
-        return PRUNE_RCVD;
+        return CODE_PRUNE_RCVD;
     }
     if entry::in_map(r.stopped, number) {
-        return NOT_FORWARDING;
+        return CODE_NOT_FORWARDING;
     }
-    NO_ERROR
+    CODE_NO_ERROR
 }
 
 // The first code that applies, where a route was chosen.
@@ -134,22 +150,22 @@ fn code_on(v: View, r: Route) -> u8
     ensures { λ code. ⌜ code ≡ firstOf (codesFor v (Found r)) ⌝ }
 {
     if v.query & !v.proper {
-        return WRONG_LAST_HOP;
+        return CODE_WRONG_LAST_HOP;
     }
     if entry::is_rp(r) {
-        return REACHED_RP;
+        return CODE_REACHED_RP;
     }
     if v.prohibited {
-        return ADMIN_PROHIB;
+        return CODE_ADMIN_PROHIB;
     }
     if !entry::is_multicast(v.here) {
-        return NO_MULTICAST;
+        return CODE_NO_MULTICAST;
     }
     if v.number == r.incoming as u32 {
-        return RPF_IF;
+        return CODE_RPF_IF;
     }
     if !entry::in_map(r.forward, v.number as usize) {
-        return WRONG_IF;
+        return CODE_WRONG_IF;
     }
     late_code(v, r)
 }
@@ -164,9 +180,9 @@ fn code_of(v: View) -> u8
         Chosen::Found(r) => code_on(v, r),
         Chosen::Nothing => {
             if v.query & !v.proper {
-                return WRONG_LAST_HOP;
+                return CODE_WRONG_LAST_HOP;
             }
-            NO_ROUTE
+            CODE_NO_ROUTE
         }
     }
 }
@@ -186,7 +202,7 @@ fn input_of(i: Incoming) -> u64
 {
     match i {
         Incoming::Known(i) => i.input,
-        Incoming::Unknown => 18446744073709551615,
+        Incoming::Unknown => NOT_COUNTED,
     }
 }
 
@@ -194,8 +210,8 @@ fn input_of(i: Incoming) -> u64
 pub fn upstream(r: Route) -> u32
     ensures { λ a. ⌜ a ≡ upstreamOf r ⌝ }
 {
-    if r.upstream == 4294967295 {
-        return 3758096386;
+    if wire::all_ones(r.upstream) {
+        return ALL_ROUTERS;
     }
     r.upstream
 }
@@ -203,8 +219,8 @@ pub fn upstream(r: Route) -> u32
 fn total(r: Route) -> u64
     ensures { λ n. ⌜ n ≡ totalOf r ⌝ }
 {
-    if r.kind == 3 {
-        return 18446744073709551615;
+    if r.kind == entry::SOURCE_ONLY {
+        return NOT_COUNTED;
     }
     r.packets
 }
@@ -212,25 +228,27 @@ fn total(r: Route) -> u64
 fn mask(r: Route) -> u8
     ensures { λ n. ⌜ n ≡ maskOf r ⌝ }
 {
-    if r.kind == 2 {
-        return 127;
+    if r.kind == entry::GROUP_ONLY {
+        return NO_SOURCE_MASK;
     }
     r.length
 }
 
 // S and the source mask, as one byte.
 fn s_and_mask(r: Route) -> u8
-    requires { ⌜ r .length ≤ 32 ⌝ }
-    ensures { λ n. ⌜ n ≡ cond (sOf r) (128 + maskOf r) (maskOf r) ⌝ }
+    requires { ⌜ r .length ≤ addressBits ⌝ }
+    ensures { λ n. ⌜ n ≡ sAndMask r ⌝ }
 {
-    if (r.kind == 2) | ((r.kind == 1) & (r.length < 32)) {
-        return 128 + mask(r);
+    if (r.kind == entry::GROUP_ONLY)
+        | ((r.kind == entry::SOURCE_AND_GROUP) & (r.length < entry::ADDRESS_BITS))
+    {
+        return S_BIT + mask(r);
     }
     mask(r)
 }
 
 fn filled_of(r: Route, i: Incoming) -> Filled
-    requires { ⌜ r .length ≤ 32 ⌝ }
+    requires { ⌜ r .length ≤ addressBits ⌝ }
     ensures { λ f. ⌜ f ≡ filledOf r i ⌝ }
 {
     Filled {
@@ -303,13 +321,13 @@ pub fn ends_trace(v: View, used: u32, hops: u32) -> bool
 }
 
 // The 52 bytes of a block.
-pub fn block_bytes(b: Block) -> [u8; 52]
+pub fn block_bytes(b: Block) -> [u8; message::STANDARD_SIZE]
     ensures { λ r. ⌜ r ≡ blockBytes b ⌝ }
 {
     let f = b.filled;
-    let mut a = [0u8; 52];
-    a[0] = 4;
-    a[2] = 52;
+    let mut a = [0u8; message::STANDARD_SIZE];
+    a[0] = message::STANDARD;
+    a[2] = message::STANDARD_SIZE as u8;
     wire::put32(&mut a, 4, b.time);
     wire::put32(&mut a, 8, f.incoming);
     wire::put32(&mut a, 12, b.outgoing);
@@ -321,15 +339,15 @@ pub fn block_bytes(b: Block) -> [u8; 52]
     wire::put16(&mut a, 46, f.multicast);
     a[48] = b.threshold;
     a[50] = f.mask;
-    a[51] = b.code;
+    a[message::CODE_OFFSET] = b.code;
     a
 }
 
 // The 16 bytes of an answer record.
-pub fn note_bytes(n: Note) -> [u8; 16]
+pub fn note_bytes(n: Note) -> [u8; message::NOTE_SIZE]
     ensures { λ r. ⌜ r ≡ noteBytes n ⌝ }
 {
-    let mut a = [0u8; 16];
+    let mut a = [0u8; message::NOTE_SIZE];
     wire::put16(&mut a, 0, n.length);
     wire::put32(&mut a, 2, n.destination);
     wire::put16(&mut a, 6, n.port);

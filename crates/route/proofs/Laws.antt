@@ -1,4 +1,4 @@
--- What is known of the route that is chosen: it is one of the sheet's, keeps the rules, and serves.
+-- What is known of the route that is chosen: it is one of the sheet's, and keeps the rules.
 use Prim.Native.Nat.{ℕ, _<_}
 use mathlib.Core.List.{List}
 use mathlib.Core.Path.{_≡_, refl, sym, _∙_}
@@ -16,18 +16,16 @@ use Rattle.route.specs.declared.Chosen.the-variants.{Found, Nothing}
 use Rattle.route.specs.Choice.{whichRoute}
 use Rattle.route.specs.Inside.{ranksIn, bestOf}
 use Rattle.route.proofs.Turns.{by-rank, chosen-there}
--- it serves, and of the routes that pass a test none is longer than the one that the test chooses
-pub use Rattle.route.proofs.Longest.{Serves, chosen-serves, NoneLonger, none-longer}
 
 -- a route of the sheet, by its number
-pub record OfSheet (s : List ℕ) (r : Route) : Type 0 where
-  pub number : ℕ
-  pub there : number < layoutOf s .routes
-  pub is : r ≡ routeOf s number
+record OfSheet (s : List ℕ) (r : Route) : Type 0 where
+  number : ℕ
+  there : number < layoutOf s .routes
+  is : r ≡ routeOf s number
 
 module _ (s : List ℕ) (source group : ℕ) (r : Route) (chosen : whichRoute (routesOf s) source group ≡ Found r) where
   -- the chosen route is one of the sheet's
-  pub chosen-of-sheet : OfSheet s r
+  chosen-of-sheet : OfSheet s r
   chosen-of-sheet =
       let b = bestOf (ranksIn s source group) (layoutOf s .routes) in
       cond-cases (λ (c : Chosen). c ≡ Found r → OfSheet s r) (eqb (b .rank) 0) Nothing (Found (routeOf s (b .at)))

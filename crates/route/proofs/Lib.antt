@@ -1,6 +1,5 @@
 -- Laws that the crates above cite; and `Determined`: each promise leaves one answer.
 mod Ranks
 mod Turns
-mod Longest
 pub mod Laws
 pub mod Determined

@@ -53,10 +53,23 @@ module _ {A : Type 0} (given : ℕ → A) (other : A) where
   first-is rs n f = rw (f .split, f .shown) (it-is (f .before) (f .it) (f .after) (f .none-before) (f .applies))
 
   -- one run of rows behind another
-  pub joined : (rs ss : List Row) → byFirst given other (rs ++ ss) ≡ byFirst given (byFirst given other ss) rs
+  joined : (rs ss : List Row) → byFirst given other (rs ++ ss) ≡ byFirst given (byFirst given other ss) rs
   unfolding byFirst
   joined [] ss = refl
   joined (r ∷ rs) ss = rw (joined rs ss)
+
+  -- what holds of each way out of a table holds of what the table comes to
+  pub by-rows : (P : A → Type 0) (rs : List Row) → ((n : ℕ) → IsFirst rs n → P (given n)) → (NoneApplies rs → P other) → P (byFirst given other rs)
+  by-rows P rs some none =
+      ⊎-elim (λ f. rw (first-is rs _ f) (some _ f)) (λ n. rw (none-is rs n) (none n)) (first-or-none rs)
+
+-- the number that a table comes to, where each row gives its own and no row gives 0
+pub number-kept : {A : Type 0} (given : ℕ → A) (other : A) (number : A → ℕ) (rs : List Row) → ((n : ℕ) → number (given n) ≡ n) → number other ≡ 0
+    → number (byFirst given other rs) ≡ firstOf rs
+number-kept given other number rs keeps none =
+    by-rows given other (λ x. number x ≡ firstOf rs) rs
+    (λ n f. keeps n ∙ sym (first-is (λ n. n) 0 rs n f))
+    (λ z. none ∙ sym (none-is (λ n. n) 0 rs z))
 
 -- the number that some rows give is `firstOf` of them, and no other
 pub noted : (rs : List Row) → Noted rs (firstOf rs)

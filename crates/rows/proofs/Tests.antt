@@ -1,8 +1,7 @@
 -- Tests, and chains of them: what a test that is made of others says of each, and `first`, the rules by which `search` follows a
 -- chain of tests. Where a definition is `cond t₁ n₁ (cond t₂ n₂ ..)` and the code has a `return` for each test in the same
 -- order, every `return` is answered by `search first depth 30 fits 4000`.
-use Prim.Native.Nat.{ℕ, suc, _≤_, _<_}
-use native.Mathlib.Omega.{arith}
+use Prim.Native.Nat.{ℕ, _≤_, _<_}
 use mathlib.Core.Bool.{Bool, true, false, not, cond, _&&_, _||_}
 use mathlib.Core.Logic.{_⊎_, inl, inr}
 use mathlib.Core.Path.{_≡_, refl, sym, ap, _∙_}
@@ -41,15 +40,6 @@ pub ruleset parts = (both-first, both-second)
 pub one-of : (t u : Bool) → t || u ≡ true → (t ≡ true) ⊎ (u ≡ true)
 one-of true u e = inl refl
 one-of false u e = inr e
-
--- one of two holds, and it is not the first; or not the second
-pub other-of : (t u : Bool) → t || u ≡ true → t ≡ false → u ≡ true
-other-of true u e f = cc
-other-of false u e f = e
-
-pub first-of : (t u : Bool) → t || u ≡ true → u ≡ false → t ≡ true
-first-of true u e f = refl
-first-of false u e f = cc
 
 -- neither holds
 pub neither-of : (t u : Bool) → t || u ≡ false → (t ≡ false) × (u ≡ false)
@@ -105,8 +95,3 @@ pub ruleset first = (told-not, told-good, eq-told, ne-told, lt-told, le-told, to
 pub cond-cases : {A : Type 0} (P : A → Type 0) (b : Bool) (x y : A) → (b ≡ true → P x) → (b ≡ false → P y) → P (cond b x y)
 cond-cases P true x y f g = f refl
 cond-cases P false x y f g = g refl
-
--- where a chain of tests comes out below its first number, the first test failed
-pub passed : (t : Bool) (k rest : ℕ) → cond t (suc k) rest ≡ 0 → (t ≡ false) × (rest ≡ 0)
-passed true k rest e = absurd (omega arith)
-passed false k rest e = (refl, e)

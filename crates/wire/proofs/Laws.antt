@@ -2,14 +2,13 @@
 -- the bytes outside stay.
 use Prim.Native.Nat.{ℕ, zero, suc, _+_, _*_, _/_, _%_, _^_, _-_, _≤_, _<_}
 use mathlib.Core.Path.{_≡_, refl, sym, ap, _∙_}
-use mathlib.Core.List.{List, [], _∷_, _++_, append-assoc}
+use mathlib.Core.List.{List, _++_, append-assoc}
 use native.Mathlib.Omega.{arith}
 use native.Mathlib.Nat.{add-assoc, zero-add, add-zero, pow-suc, mod-lt, div-add-mod', div-lt-iff-lt-mul, one-le-pow}
-use native.Mathlib.Numerals.{add-one}
 use lib.Pow.{pow-add}
 use lib.Dec.{lit≤}
-use lib.ListN.{length, take, drop, set, length-append, length-drop, length-set, List·getD-append}
-use lib.Seq.{take-at, drop-at, drop-drop, getD-take, getD-drop, getD-append-add, length-take-le, sets-eq, paste, paste-suc, take-length}
+use lib.ListN.{length, take, drop, length-append, length-drop, List·getD-append}
+use lib.Seq.{take-at, drop-at, drop-drop, getD-take, getD-drop, getD-append-add, length-take-le}
 use Rattle.wire.specs.Numbers.{byteAt, be, bytes}
 use Rattle.wire.specs.Parts.{part, splice}
 
@@ -32,10 +31,6 @@ length-bytes (suc d) v =
 
 length-bytes-front : (d v : ℕ) → 0 + 2 ^ d ≡ length (bytes d v) + 0
 length-bytes-front d v = omega (arith, length-bytes d v)
-
-bytes-halves : (d v : ℕ) → bytes (suc d) v ≡ bytes d (v / 256 ^ (2 ^ d)) ++ bytes d (v % 256 ^ (2 ^ d))
-unfolding bytes
-bytes-halves d v = refl
 
 -- two lists that agree on the bytes of a number hold the same number
 pub be-same : (d : ℕ) (s t : List ℕ) (i j : ℕ) → ((k : ℕ) → k < 2 ^ d → byteAt s (i + k) ≡ byteAt t (j + k)) → be d s i ≡ be d t j
@@ -81,7 +76,7 @@ module _ (s : List ℕ) (at : ℕ) (xs : List ℕ) (fits : at + length xs ≤ le
       ∙ List·getD-append (take at s) xs 0 j (omega (arith, length-front))
       ∙ getD-take at s j 0 h
 
-  pub byte-within : (j : ℕ) → j < length xs → byteAt (splice s at xs) (at + j) ≡ byteAt xs j
+  byte-within : (j : ℕ) → j < length xs → byteAt (splice s at xs) (at + j) ≡ byteAt xs j
   unfolding splice
   byte-within j h =
       List·getD-append (take at s ++ xs) (drop (at + length xs) s) 0 (at + j) (omega (arith, length-head))
@@ -159,42 +154,3 @@ be-bytes (suc d) v h =
       be-bytes d (v % B) (mod-lt v pos),
     )
     (div-add-mod' v B)
-
--- a store is a part of one byte
-pub set-splice : (s : List ℕ) (at v : ℕ) → at < length s → set s at v ≡ splice s at (v ∷ [])
-unfolding splice
-set-splice s at v h = sets-eq (v ∷ []) s at (omega arith)
-
--- a number's two halves written one behind the other are the number written
-pub halves-written : (d : ℕ) (s t u : List ℕ) (at v : ℕ) → at + 2 ^ suc d ≤ length s → t ≡ splice s at (bytes d (v / 256 ^ (2 ^ d)))
-    → u ≡ splice t (at + 2 ^ d) (bytes d (v % 256 ^ (2 ^ d))) → u ≡ splice s at (bytes (suc d) v)
-halves-written d s t u at v h e f =
-    let hi : List ℕ = bytes d (v / 256 ^ (2 ^ d)) in
-    let lo : List ℕ = bytes d (v % 256 ^ (2 ^ d)) in
-    rw (f, e, ap (λ (n : ℕ). splice (splice s at hi) (at + n) lo) (sym (length-bytes d (v / 256 ^ (2 ^ d)))))
-    (splice-join s at hi (omega (arith, double d, length-bytes d (v / 256 ^ (2 ^ d)))) lo ∙ ap (splice s at) (sym (bytes-halves d v)))
-
--- two stores side by side are a number of two bytes written
-pub pair-stored : (s : List ℕ) (at v : ℕ) → at + 2 ≤ length s → set (set s at (v / 256)) (at + 1) (v % 256) ≡ splice s at (bytes 1 v)
-unfolding bytes
-pair-stored s at v h =
-    let t : List ℕ = set s at (v / 256) in
-    halves-written 0 s t (set t (at + 1) (v % 256)) at v h
-    (set-splice s at (v / 256) (omega arith))
-    (set-splice t (at + 1) (v % 256) (simp length-set (omega arith)))
-
--- what was written is read back
-pub be-written : (d : ℕ) (s : List ℕ) (at v : ℕ) → at + 2 ^ d ≤ length s → v < 256 ^ (2 ^ d) → be d (splice s at (bytes d v)) at ≡ v
-be-written d s at v h k =
-    ap (be d (splice s at (bytes d v))) (sym (add-zero at))
-    ∙ be-within s at (bytes d v) (omega (arith, length-bytes d v)) d 0 (omega (arith, length-bytes d v))
-    ∙ be-bytes d v k
-
--- copying byte by byte: after j bytes the destination is the old one with the first j pasted in
-pub copied-more : (d s l : List ℕ) (at j : ℕ) → l ≡ paste d at s j → at + length s ≤ length d → j < length s
-    → set l (at + j) (byteAt s j) ≡ paste d at s (j + 1)
-copied-more d s l at j e h k = rw (e, add-one) (paste-suc d at s j 0 (omega arith) k)
-
-pub copied-all : (d s l : List ℕ) (at j : ℕ) → l ≡ paste d at s j → j ≤ length s → length s ≤ j → l ≡ splice d at s
-unfolding splice
-copied-all d s l at j e h k = let q : j ≡ length s = omega arith in e ∙ rw (q, take-length)

@@ -10,7 +10,7 @@ use lib.Dec.{leb, eqb}
 use lib.ListN.{length, replicate}
 use Rattle.wire.specs.Numbers.{be, be16, be32, bytes}
 use Rattle.wire.specs.Parts.{splice}
-use Rattle.wire.specs.Addresses.{unicast}
+use Rattle.wire.specs.Addresses.{firstOctet, unicast}
 use Rattle.rows.proofs.Tests.{both-of}
 use Rattle.wire.proofs.Laws.{be-within}
 use Rattle.recent.specs.Entries.{empty}
@@ -18,10 +18,9 @@ use Rattle.response.specs.declared.Note.{Note}
 use Rattle.response.specs.Fill.{allRouters}
 use Rattle.response.specs.Bytes.{noteBytes}
 use Rattle.response.proofs.Laws.{note-length}
-use Rattle.message.specs.Format.{most}
+use Rattle.message.specs.Format.{most, noteSize}
 use Rattle.message.specs.Header.{headerOf}
 use Rattle.drops.specs.Arrival.{Arrival}
-use Rattle.drops.specs.Drop.{noteSize}
 use Rattle.rows.specs.Rows.{firstOf, NoneApplies, IsFirst}
 use Rattle.rows.proofs.Laws.{first-or-none, none-is, first-is}
 use Rattle.engine.specs.Answer.{sentBy}
@@ -44,8 +43,8 @@ module _ (n : Note) where
 -- a destination fits 32 bits
 to-fits : (a : ℕ) → (unicast a ≡ true) ⊎ (a ≡ allRouters) → a < 4294967296
 to-fits a (inl e) =
-    let p = both-of (leb 1 (a / 16777216) && leb (a / 16777216) 223) (not (eqb (a / 16777216) 127)) e in
-    omega (arith, leb-true (a / 16777216) 223 (both-of (leb 1 (a / 16777216)) (leb (a / 16777216) 223) (p .0) .1))
+    let p = both-of (leb 1 (firstOctet a) && leb (firstOctet a) 223) (not (eqb (firstOctet a) 127)) e in
+    omega (arith, leb-true (firstOctet a) 223 (both-of (leb 1 (firstOctet a)) (leb (firstOctet a) 223) (p .0) .1))
 to-fits a (inr e) = omega arith
 
 -- what is sent for what arrives: a drop's number, or the answer

@@ -8,8 +8,8 @@ use native.Mathlib.Omega.{arith}
 use borrow.Author.Tests.{eqb-false}
 use lib.ListN.{length}
 use Rattle.wire.specs.Numbers.{byteAt}
-use Rattle.rows.specs.Rows.{NoneApplies, firstOf}
-use Rattle.rows.proofs.Laws.{first-or-none, none-is, first-is, none-at}
+use Rattle.rows.specs.Rows.{NoneApplies}
+use Rattle.rows.proofs.Laws.{none-is, by-rows, none-at}
 use Rattle.message.specs.Format.{headerSize, request}
 use Rattle.message.specs.Header.{headerOf}
 use Rattle.message.specs.Blocks.{standardBlocks}
@@ -33,9 +33,8 @@ module _ (yard times : List ℕ) (v : Visit) (output : ℕ) where
   pub steps-within : length (walkOf yard times v output .visits) ≤ mostSteps
   unfolding walkOf
   steps-within =
-      ⊎-elim (λ f. rw (first-is refusedWalk (walkFrom yard times v) (walkRows yard times v output) (firstOf (walkRows yard times v output)) f) (omega arith))
-      (λ none. rw (not-refused-walks none) (walk-within yard times v))
-      (first-or-none (walkRows yard times v output))
+      by-rows refusedWalk (walkFrom yard times v) (λ (w : Walk). length (w .visits) ≤ mostSteps) (walkRows yard times v output) (λ n f. omega arith)
+      (λ none. walk-within yard times v)
 
   module _ (s : Starts yard times v output) where
     no-request : byteAt (v .arrival .message) 0 ≡ request → ⊥

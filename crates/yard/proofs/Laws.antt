@@ -1,10 +1,5 @@
 -- Laws of the walk that the crates above cite.
-use Prim.Native.Nat.{ℕ}
-use mathlib.Core.List.{List}
-use mathlib.Core.Path.{_≡_}
-use Rattle.wire.proofs.Laws.{both-are}
-use Rattle.yard.specs.declared.Walked.{Walked}
-use Rattle.yard.specs.Walk.{Walk, Tells}
+
 -- every walk that is not refused and that its first router accepts comes home and tells the truth; and none has more than 28 steps
 pub use Rattle.yard.proofs.Faithful.{walk-is-faithful, not-refused-walks, steps-within}
 -- the walk from a visit is a run, and there is no other
@@ -14,7 +9,3 @@ pub use Rattle.yard.proofs.Holders.{Somebody, nobody-or-somebody}
 -- a call of the engine by its promise, and what becomes of what it sent
 pub use Rattle.yard.proofs.Calls.{called}
 pub use Rattle.yard.proofs.Turns.{sent-short, end-not-on, end-group, end-nobody, end-goes}
-
--- one answer tells of a walk, and one output
-pub told-once : {w : Walk} {output : List ℕ} {r s : Walked} {new new′ : List ℕ} → Tells w output r new → Tells w output s new′ → (r ≡ s) × (new ≡ new′)
-told-once a b = (both-are (a .answer) (b .answer), both-are (a .sends) (b .sends))

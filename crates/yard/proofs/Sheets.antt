@@ -103,7 +103,7 @@ yard-right yard e = sized (length yard) (both-of (yardSizeOk (length yard)) _ e 
 
 -- the count of a router that is asked
 pub count-told : (yard counts : List ℕ) (n i : ℕ) → Counted yard counts n → i < n
-    → getD counts i 0 ≡ layoutOf (take (1024 * i + 1024 - 1024 * i) (drop (1024 * i) yard)) .interfaces
+    → getD counts i 0 ≡ layoutOf (take (sheetSize * i + sheetSize - sheetSize * i) (drop (sheetSize * i) yard)) .interfaces
 count-told yard counts n i c h = c .each i h ∙ rw (lent-sheet yard i)
 
 -- the whole search is the search from router i on
@@ -117,7 +117,7 @@ module _ (yard : List ℕ) (address n : ℕ) where
     unfolding lowestFrom
     step h = let e : n - i ≡ suc (n - (i + 1)) = omega arith in so-far ∙ rw e
 
-    module _ (found : Holding) (told : found ≡ holderOf (take (1024 * i + 1024 - 1024 * i) (drop (1024 * i) yard)) address) (here : i < n) where
+    module _ (found : Holding) (told : found ≡ holderOf (take (sheetSize * i + sheetSize - sheetSize * i) (drop (sheetSize * i) yard)) address) (here : i < n) where
       asked : holderOf (sheetAt yard i) address ≡ found
       asked = sym (told ∙ rw (lent-sheet yard i))
 

@@ -8,10 +8,9 @@ use native.Mathlib.Omega.{arith}
 use lib.ListN.{length, getD}
 use Rattle.recent.specs.Entries.{empty}
 use Rattle.response.specs.declared.Block.{Block}
-use Rattle.message.specs.Format.{most, standardSize}
+use Rattle.message.specs.Format.{most, standardSize, noteSize}
 use Rattle.message.specs.Room.{hopsLeft}
 use Rattle.message.proofs.Laws.{Accepted}
-use Rattle.drops.specs.Drop.{noteSize}
 use Rattle.drops.proofs.Laws.{Taken, taken}
 use Rattle.engine.proofs.Laws.{blocks-below-hops}
 use Rattle.yard.specs.Yard.{sheetAt}

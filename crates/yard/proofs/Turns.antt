@@ -13,10 +13,10 @@ use Rattle.wire.specs.Addresses.{multicast}
 use Rattle.rows.proofs.Tests.{decided}
 use Rattle.recent.specs.Entries.{empty}
 use Rattle.response.specs.declared.Block.{Block}
-use Rattle.message.specs.Format.{most, request, reply}
+use Rattle.message.specs.Format.{most, request, reply, noteSize}
 use Rattle.message.specs.Room.{Full, HasRoom, hopsLeft}
 use Rattle.drops.specs.Arrival.{arrival}
-use Rattle.drops.specs.Drop.{noteSize, nearTtl}
+use Rattle.drops.specs.Drop.{nearTtl}
 use Rattle.rows.specs.Rows.{firstOf}
 use Rattle.rows.proofs.Laws.{first-or-none}
 use Rattle.engine.specs.Answer.{Sent, sentOn, sentHome, fullMessage, longerMessage, sentBy}

@@ -11,11 +11,11 @@ use Rattle.wire.specs.Parts.{splice}
 use Rattle.wire.specs.Addresses.{multicast}
 use Rattle.rows.specs.Rows.{Row, row, byFirst}
 use Rattle.recent.specs.Entries.{empty}
-use Rattle.message.specs.Format.{most, request}
+use Rattle.message.specs.Format.{most, request, noteSize}
 use Rattle.message.specs.Blocks.{standardCount}
 use Rattle.message.specs.Room.{hopsLeft}
 use Rattle.drops.specs.Arrival.{Arrival, arrival}
-use Rattle.drops.specs.Drop.{dropRoom, noteSize, nearTtl, table}
+use Rattle.drops.specs.Drop.{dropRoom, nearTtl, table}
 use Rattle.engine.specs.Answer.{Sent, sentOn, sentBy}
 use Rattle.yard.specs.declared.Walked.{Walked}
 use Rattle.yard.specs.declared.Holder.{Holder}

@@ -129,7 +129,7 @@ fn ask(
     ensures { λ r. ⌜ Called (sentFor (now (sheet .entry)) time (arrival (now (message .entry)) destination receiving ttl)) (now (sent .entry)) r (now (sent .exit)) ⌝ }
 {
     let mut recent = [0u8; recent::LIST_SIZE];
-    let mut note = [0u8; drops::NOTE_SIZE];
+    let mut note = [0u8; message::NOTE_SIZE];
     let answer = engine::step(
         message,
         destination,
