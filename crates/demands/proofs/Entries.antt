@@ -9,7 +9,7 @@ use mathlib.Core.Logic.{⊎-elim}
 use lib.ListN.{length}
 use lib.Seq.{take-append-seam}
 use Rattle.rows.specs.Rows.{byFirst, NoneApplies}
-use Rattle.rows.proofs.Tests.{decided}
+use Rattle.rows.proofs.Laws.{decided}
 use Rattle.wire.specs.Numbers.{be, bytes, be32, bytes32}
 use Rattle.wire.specs.Parts.{splice}
 use Rattle.wire.proofs.Laws.{be-within, splice-front}
