@@ -1,5 +1,4 @@
--- Inside: what only the contracts of this crate's own functions cite. No entry's promise rests on it, and a reader of the
--- definitions may pass it over.
+-- Inside: what only the contracts of this crate's own functions cite. No entry's promise rests on it, and a reader of the definitions may pass it over.
 use Prim.Native.Nat.{ℕ, _+_, _≤_, _<_}
 use mathlib.Core.Bool.{cond}
 use mathlib.Core.List.{List}
