@@ -28,7 +28,7 @@ use Rattle.engine.specs.Step.{Outcome, outcome, stepOf}
 use Rattle.yard.specs.Yard.{sheetAt}
 use Rattle.yard.specs.Walk.{toGroup, nobodyThere, Visit, visit, sentAt, endOf, nextOf, Walk, refusedWalk, walkFrom, walkRows, walkOf}
 use Rattle.yard.specs.Holders.{LowestHolder, NobodyHolds}
-use Rattle.yard.specs.Faithful.{Run as Walks, run-over, run-on, Starts, blockDue}
+use Rattle.yard.specs.Faithful.{Walks, run-over, run-on, Starts, blockDue}
 use Rattle.yard.proofs.Laws.{called, sent-short, end-not-on, end-group, end-nobody, end-goes, nobody-or-somebody, walk-runs, one-run, not-refused-walks, walk-is-faithful, steps-within}
 use Rattle.demands.specs.Engine.{Engine, rows, BlockOf, EngineMeets}
 use Rattle.demands.specs.Walk.{Told, Walker, told, blank, callAt, sent, to, did, Run, stays, group, nobody, goes, Truth, Demand3, WalkMeets}

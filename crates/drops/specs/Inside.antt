@@ -1,5 +1,5 @@
--- Inside: what only the contracts of this crate cite. No entry's promise rests on it, and a reader of the definitions may pass
--- it over. The verdict on what arrives: the drop number, and for an accepted message all that was found out on the way.
+-- Inside: what only the contracts of inner functions cite, here and in the crates above. No entry's promise rests on it, and a reader of the definitions may pass it over.
+-- Here: the verdict on what arrives: the drop number, and for an accepted message all that was found out on the way.
 use Prim.Native.Nat.{ℕ}
 use mathlib.Core.Bool.{Bool, false}
 use mathlib.Core.List.{List, _++_}

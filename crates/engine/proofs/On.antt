@@ -34,7 +34,7 @@ use Rattle.message.proofs.Laws.{standards-fit, Accepted, accepted-kinds, accept
 use Rattle.drops.specs.Arrival.{Arrival, arrival, routeFor}
 use Rattle.drops.specs.Drop.{nearTtl, table}
 use Rattle.engine.specs.View.{viewWith, viewOf}
-use Rattle.engine.specs.Answer.{Sent, sentOn, on, noteOn, longerMessage, sentBy}
+use Rattle.engine.specs.Answer.{Sent, sentOn, goesOn, noteOn, longerMessage, sentBy}
 use Rattle.rows.specs.Rows.{NoneApplies}
 use Rattle.message.specs.Room.{HasRoom, hopsUsed, hopsLeft}
 use Rattle.drops.proofs.Laws.{Taken, not-dropped}
@@ -95,7 +95,7 @@ pub record Grown (a : Arrival) (time : ℕ) (sheet : List ℕ) (s : Sent) : Type
 module _ (a : Arrival) (time : ℕ) (sheet recent : List ℕ) (output note : ℕ) (t : Taken a sheet recent output note) where
   grown : HasRoom (a .message)
       → endsTrace (viewOf a time sheet) (hopsUsed (a .message) + 1) (headerOf (a .message) .hops) ≡ false
-      → Grown a time sheet (on (viewOf a time sheet) (longerMessage request (a .message) (blockOf (viewOf a time sheet))))
+      → Grown a time sheet (goesOn (viewOf a time sheet) (longerMessage request (a .message) (blockOf (viewOf a time sheet))))
   unfolding viewWith routeFor
   grown room e =
       let m = a .message in

@@ -27,7 +27,7 @@ use Rattle.message.specs.declared.Header.{Header}
 use Rattle.message.specs.Header.{headerOf}
 use Rattle.message.specs.Blocks.{lastStandard}
 use Rattle.engine.specs.View.{incomingFor, viewWith}
-use Rattle.engine.specs.Answer.{sentOn, sentHome, mtracePort, noteHome, noteOn, home, on, fullMessage, longerMessage, longerAnswer}
+use Rattle.engine.specs.Answer.{sentOn, sentHome, mtracePort, noteHome, noteOn, goesHome, goesOn, fullMessage, longerMessage, longerAnswer}
 use Rattle.engine.specs.Inside.{RouteThere, Written}
 use Rattle.message.specs.Format.{query, request, reply, standardSize, codeOffset}
 use Rattle.response.specs.Code.{codeNoSpace}
@@ -86,14 +86,14 @@ view-made s h chosen proper receiving time incoming prohibited here e f g = rw (
 -- a message without room
 pub full-sent : (m : List ℕ) (h : Header) (last : ℕ) (here : Interface) (o n o1 n1 : List ℕ) (k : Note) → h ≡ headerOf m → last ≡ lastStandard m
     → o1 ≡ splice o 0 (set (set m 0 reply) (last + codeOffset) codeNoSpace) → k ≡ noteHome h (length m) (here .address) → n1 ≡ splice n 0 (noteBytes k)
-    → Written (home h (here .address) (fullMessage m)) o n sentHome o1 n1
+    → Written (goesHome h (here .address) (fullMessage m)) o n sentHome o1 n1
 full-sent m h last here o n o1 n1 k e f g p q =
     record { says = refl; sends = rw (g, f); notes = rw (q, p) (simp (length-set, length-set)) }
 
 -- a message with room: home, or on
 module _ (m : List ℕ) (v : View) (h : Header) (used : ℕ) (header : h ≡ headerOf m) (count : used ≡ hopsUsed m) (b : Block) (block : b ≡ blockOf v) (x : Bool)
     (told : x ≡ endsTrace v (used + 1) (h .hops)) (o n o1 n1 : List ℕ) (k : Note) (noted : n1 ≡ splice n 0 (noteBytes k)) where
-  answer-home : x ≡ true → longerAnswer m v ≡ home (headerOf m) (v .here .address) (longerMessage reply m (blockOf v))
+  answer-home : x ≡ true → longerAnswer m v ≡ goesHome (headerOf m) (v .here .address) (longerMessage reply m (blockOf v))
   unfolding longerAnswer
   answer-home e = rw (← count, ← header, ← told, e)
 
@@ -103,7 +103,7 @@ module _ (m : List ℕ) (v : View) (h : Header) (used : ℕ) (header : h ≡ hea
       rw (answer-home e)
       (record { says = refl; sends = rw (f, block); notes = rw (noted, g, header, longer-length reply m (blockOf v)) })
 
-  answer-on : x ≡ false → longerAnswer m v ≡ on v (longerMessage request m (blockOf v))
+  answer-on : x ≡ false → longerAnswer m v ≡ goesOn v (longerMessage request m (blockOf v))
   unfolding longerAnswer
   answer-on e = rw (← count, ← header, ← told, e)
 

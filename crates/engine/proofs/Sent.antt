@@ -29,7 +29,7 @@ use Rattle.message.specs.Room.{isFull, Full, HasRoom, hopsUsed}
 use Rattle.drops.specs.Drop.{table}
 use Rattle.rows.specs.Rows.{NoneApplies, IsFirst}
 use Rattle.engine.specs.View.{viewWith, viewOf}
-use Rattle.engine.specs.Answer.{Sent, sentOn, sentHome, home, on, fullMessage, longerMessage, longerAnswer, sentBy}
+use Rattle.engine.specs.Answer.{Sent, sentOn, sentHome, goesHome, goesOn, fullMessage, longerMessage, longerAnswer, sentBy}
 use Rattle.engine.specs.Step.{outcome, answeredBy, stepOf}
 
 -- a drop returns its number and changes nothing lent; anything else is answered by what is sent
@@ -76,10 +76,10 @@ module _ (a : Arrival) (time : ℕ) (sheet : List ℕ) where
   block = blockOf view
 
   pub sent-cases : (P : Sent → Type 0)
-      → (Full m → P (home (headerOf m) (interfaceOf sheet (a .receiving) .address) (fullMessage m)))
+      → (Full m → P (goesHome (headerOf m) (interfaceOf sheet (a .receiving) .address) (fullMessage m)))
       → (HasRoom m → endsTrace view (hopsUsed m + 1) (headerOf m .hops) ≡ true
-      → P (home (headerOf m) (view .here .address) (longerMessage reply m block)))
-      → (HasRoom m → endsTrace view (hopsUsed m + 1) (headerOf m .hops) ≡ false → P (on view (longerMessage request m block)))
+      → P (goesHome (headerOf m) (view .here .address) (longerMessage reply m block)))
+      → (HasRoom m → endsTrace view (hopsUsed m + 1) (headerOf m .hops) ≡ false → P (goesOn view (longerMessage request m block)))
       → P (sentBy a time sheet)
   unfolding sentBy longerAnswer
   sent-cases P full last next =

@@ -25,7 +25,7 @@ use Rattle.drops.specs.declared.Verdict.{Verdict}
 use Rattle.drops.specs.Arrival.{Arrival, arrival, routeFor}
 use Rattle.drops.specs.Inside.{passVerdict, verdictOf}
 use Rattle.engine.specs.View.{viewWith}
-use Rattle.engine.specs.Answer.{home, fullMessage, longerAnswer, sentBy}
+use Rattle.engine.specs.Answer.{goesHome, fullMessage, longerAnswer, sentBy}
 use Rattle.engine.specs.Step.{outcome, recentAfter, StepMeets}
 use Rattle.engine.specs.Inside.{RouteThere, Written, WithRoom, WithoutRoom, Ready, answered}
 use Rattle.message.specs.Room.{Full, HasRoom}
@@ -36,7 +36,7 @@ use Rattle.drops.proofs.Laws.{taken, verdict-first, verdict-none, verdict-passe
 -- the outcome of what is written, as a message without room and as one with room
 module _ (m : List ℕ) (receiving time : ℕ) (v : Verdict) (s r o n r1 o1 n1 : List ℕ) (answer : ℕ) (entered : r1 ≡ recentAfter (v .header) r) where
   pub answered-full : (here : Interface) → here ≡ interfaceOf s receiving → Full m
-      → Written (home (v .header) (here .address) (fullMessage m)) o n answer o1 n1 → outcome answer r1 o1 n1 ≡ answered m receiving time v s r o n
+      → Written (goesHome (v .header) (here .address) (fullMessage m)) o n answer o1 n1 → outcome answer r1 o1 n1 ≡ answered m receiving time v s r o n
   unfolding answered
   answered-full here e full w =
       rw (lt-ltb most (length m + standardSize) full, ← e, w .says, w .sends, w .notes, entered)

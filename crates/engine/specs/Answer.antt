@@ -56,11 +56,11 @@ noteOn (Found r) incoming size =
     record { length = size; destination = upstreamOf r; port = mtracePort; interface = r .incoming; source = addressOf incoming }
 
 -- a message sent home, and one sent on, with its record
-abbrev pub home : Header → ℕ → List ℕ → Sent
-home h source message = record { answer = sentHome; message = message; note = noteHome h (length message) source }
+abbrev pub goesHome : Header → ℕ → List ℕ → Sent
+goesHome h source message = record { answer = sentHome; message = message; note = noteHome h (length message) source }
 
-abbrev pub on : View → List ℕ → Sent
-on v message = record { answer = sentOn; message = message; note = noteOn (v .chosen) (v .incoming) (length message) }
+abbrev pub goesOn : View → List ℕ → Sent
+goesOn v message = record { answer = sentOn; message = message; note = noteOn (v .chosen) (v .incoming) (length message) }
 
 -- 1. there is no room: copy, type 3, code 0x81 in the last type 4 block
 abbrev pub fullMessage : List ℕ → List ℕ
@@ -74,14 +74,14 @@ longerMessage kind m b = set m 0 kind ++ blockBytes b
 unfoldable pub longerAnswer : List ℕ → View → Sent
 longerAnswer m v =
     let h = headerOf m in
-    let last = home h (v .here .address) (longerMessage reply m (blockOf v)) in
-    let next = on v (longerMessage request m (blockOf v)) in
+    let last = goesHome h (v .here .address) (longerMessage reply m (blockOf v)) in
+    let next = goesOn v (longerMessage request m (blockOf v)) in
     cond (endsTrace v (hopsUsed m + 1) (h .hops)) last next
 
 -- what is sent: step 1 where there is no room, else steps 2 to 5
 unfoldable pub sentBy : Arrival → ℕ → List ℕ → Sent
 sentBy a time sheet =
     let m = a .message in
-    let full = home (headerOf m) (interfaceOf sheet (a .receiving) .address) (fullMessage m) in
+    let full = goesHome (headerOf m) (interfaceOf sheet (a .receiving) .address) (fullMessage m) in
     let longer = longerAnswer m (viewOf a time sheet) in
     cond (isFull m) full longer

@@ -1,5 +1,4 @@
--- Inside: what only the contracts of this crate's own functions cite. No entry's promise rests on it, and a reader of the
--- definitions may pass it over.
+-- Inside: what only the contracts of this crate's own functions cite. No entry's promise rests on it, and a reader of the definitions may pass it over.
 use Prim.Native.Nat.{ℕ, _+_, _≤_, _<_}
 use mathlib.Core.Bool.{cond}
 use mathlib.Core.List.{List}
@@ -25,7 +24,7 @@ use Rattle.route.specs.declared.Chosen.the-variants.{Found, Nothing}
 use Rattle.wire.specs.Parts.{splice}
 use Rattle.response.specs.Bytes.{noteBytes}
 use Rattle.engine.specs.View.{viewWith}
-use Rattle.engine.specs.Answer.{Sent, home, fullMessage, longerAnswer}
+use Rattle.engine.specs.Answer.{Sent, goesHome, fullMessage, longerAnswer}
 use Rattle.engine.specs.Step.{Outcome, answeredBy}
 
 -- a route's incoming interface is one of so many, or unknown, as in every valid sheet
@@ -76,6 +75,6 @@ pub record Ready (m : List ℕ) (receiving : ℕ) (v : Verdict) (sheet recent : 
 -- the outcome of an accepted message, by the verdict on it
 unfoldable pub answered : List ℕ → ℕ → ℕ → Verdict → List ℕ → List ℕ → List ℕ → List ℕ → Outcome
 answered m receiving time v sheet recent output note =
-    let full : Sent = home (v .header) (interfaceOf sheet receiving .address) (fullMessage m) in
+    let full : Sent = goesHome (v .header) (interfaceOf sheet receiving .address) (fullMessage m) in
     let longer : Sent = longerAnswer m (viewWith sheet (v .header) (v .chosen) (v .proper) receiving time) in
     answeredBy (cond (isFull m) full longer) (v .header) recent output note

@@ -18,7 +18,7 @@ ghost use Rattle.message.specs.Format.{most, reply, standardSize, codeOffset, n
 ghost use Rattle.response.specs.Bytes.{noteBytes};
 ghost use Rattle.drops.specs.Arrival.{arrival};
 ghost use Rattle.engine.specs.View.{incomingFor, viewWith};
-ghost use Rattle.engine.specs.Answer.{noteHome, noteOn, home, fullMessage, longerMessage, longerAnswer};
+ghost use Rattle.engine.specs.Answer.{noteHome, noteOn, goesHome, fullMessage, longerMessage, longerAnswer};
 ghost use Rattle.engine.specs.Inside.{RouteThere, Written, WithRoom, WithoutRoom, Ready, answered};
 ghost use Rattle.engine.specs.Step.{outcome, recentAfter, StepMeets};
 
@@ -188,7 +188,7 @@ fn send_full(
     note: &mut [u8],
 ) -> u32
     requires { ⌜ WithoutRoom (now message) h last (length (now output)) (length (now note)) ⌝ }
-    ensures { λ r. ⌜ Written (home h (here .address) (fullMessage (now (message .entry)))) (now (output .entry)) (now (note .entry)) r (now (output .exit)) (now (note .exit)) ⌝ }
+    ensures { λ r. ⌜ Written (goesHome h (here .address) (fullMessage (now (message .entry)))) (now (output .entry)) (now (note .entry)) r (now (output .exit)) (now (note .exit)) ⌝ }
 {
     write_full(message, last, output);
     write_note(note_home(h, message.len(), here.address), note);

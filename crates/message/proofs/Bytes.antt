@@ -13,8 +13,8 @@ use Rattle.wire.specs.Numbers.{byteAt, be16}
 use Rattle.wire.specs.Parts.{part}
 use Rattle.rows.proofs.Laws.{decided}
 use Rattle.message.specs.Format.{headerSize, standard, standardSize, codeOffset}
-use Rattle.message.specs.Blocks.{blocksFrom, blocksOf, standardPlaces, lastOr, standards, standardCount, standardAt, lastStandard, standardBlocks, lastCoded}
-use Rattle.message.specs.Inside.{StandardBlock}
+use Rattle.message.specs.Inside.{standardAt, StandardBlock}
+use Rattle.message.specs.Blocks.{blocksFrom, blocksOf, standardPlaces, lastOr, standards, standardCount, lastStandard, standardBlocks, lastCoded}
 use Rattle.message.proofs.Cut.{begun, by-blocks}
 use Rattle.message.proofs.Standards.{no-places, places-more, places-same, by-standard, standard-low, standard-high, last-is, last-low}
 use Rattle.message.proofs.Write.{typed-standards, coded-standards}

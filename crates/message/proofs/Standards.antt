@@ -10,7 +10,8 @@ use lib.Dec.{eqb}
 use lib.ListN.{length, getD, drop, length-drop}
 use Rattle.wire.specs.Numbers.{byteAt, be16}
 use Rattle.message.specs.Format.{headerSize, standard, standardSize}
-use Rattle.message.specs.Blocks.{Placed, placedAt, begins, blocksFrom, blocksOf, totalSize, standardPlaces, lastOr, standards, standardCount, standardAt, lastStandard}
+use Rattle.message.specs.Inside.{standardAt}
+use Rattle.message.specs.Blocks.{Placed, placedAt, begins, blocksFrom, blocksOf, totalSize, standardPlaces, lastOr, standards, standardCount, lastStandard}
 use Rattle.rows.proofs.Laws.{decided}
 use Rattle.message.proofs.Cut.{begun, no-blocks, block-first, by-blocks}
 use Rattle.message.proofs.Turns.{standard-more, standard-same}

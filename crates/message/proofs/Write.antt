@@ -13,7 +13,8 @@ use Rattle.wire.specs.Numbers.{byteAt, be, be16}
 use Rattle.wire.proofs.Laws.{be-same}
 use Rattle.message.specs.Format.{headerSize, query, standard, standardSize, codeOffset}
 use Rattle.message.specs.Header.{headerOf, retyped}
-use Rattle.message.specs.Blocks.{placedAt, begins, blocksFrom, blocksOf, standards, standardCount, standardAt, lastStandard, blocksEnd, fillsMessage, requestForm, rightForm}
+use Rattle.message.specs.Inside.{standardAt}
+use Rattle.message.specs.Blocks.{placedAt, begins, blocksFrom, blocksOf, standards, standardCount, lastStandard, blocksEnd, fillsMessage, requestForm, rightForm}
 use Rattle.message.proofs.Fields.{same-but-type}
 use Rattle.message.proofs.Cut.{begun, block-first}
 use Rattle.message.proofs.Standards.{by-standard, last-is}

@@ -4,7 +4,7 @@ use Prim.Native.Nat.{ℕ, zero, suc, _+_, _%_}
 use mathlib.Core.Bool.{Bool, false, cond, _&&_, _||_}
 use mathlib.Core.List.{List, [], _∷_, map}
 use lib.Dec.{leb, eqb}
-use lib.ListN.{length, getD, drop, set}
+use lib.ListN.{length, drop, set}
 use Rattle.wire.specs.Numbers.{byteAt, be16}
 use Rattle.wire.specs.Parts.{part}
 use Rattle.message.specs.Format.{headerSize, query, standard, augmented, standardSize, codeOffset, augmentedLeast, augmentedUnit}
@@ -74,11 +74,7 @@ standards s = standardPlaces (blocksOf s)
 abbrev pub standardCount : List ℕ → ℕ
 standardCount s = length (standards s)
 
--- the place of type 4 block k, counted from 0
-abbrev pub standardAt : List ℕ → ℕ → ℕ
-standardAt s k = getD (standards s) k 0
-
--- the last of them, 0 where there are none
+-- the place of the last of them, 0 where there are none
 abbrev pub lastStandard : List ℕ → ℕ
 lastStandard s = lastOr 0 (standards s)
 

@@ -3,7 +3,7 @@
 use Prim.Native.Nat.{ℕ}
 use mathlib.Core.List.{List}
 use mathlib.Core.Path.{_≡_}
-use lib.ListN.{length}
+use lib.ListN.{length, getD}
 use Rattle.wire.specs.Numbers.{byteAt, be16}
 use Rattle.rows.specs.Rows.{byFirst}
 use Rattle.message.specs.declared.Header.{Header}
@@ -11,8 +11,12 @@ use Rattle.message.specs.declared.Blocks.{Blocks}
 use Rattle.message.specs.declared.Checked.{Checked}
 use Rattle.message.specs.Format.{standard, standardSize}
 use Rattle.message.specs.Header.{headerOf}
-use Rattle.message.specs.Blocks.{blocksEnd, standardCount, lastStandard}
+use Rattle.message.specs.Blocks.{standards, blocksEnd, standardCount, lastStandard}
 use Rattle.message.specs.Check.{messageRows}
+
+-- the place of type 4 block k, counted from 0
+abbrev pub standardAt : List ℕ → ℕ → ℕ
+standardAt s k = getD (standards s) k 0
 
 -- the bytes of a type 4 block: 52, which begin with its type and its length
 pub record StandardBlock (bytes : List ℕ) : Type 0 where

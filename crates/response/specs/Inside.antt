@@ -1,5 +1,4 @@
--- Inside: what only the contracts of this crate's own functions and those of the engine's cite. No entry's promise rests on it,
--- and a reader of the definitions may pass it over.
+-- Inside: what only the contracts of inner functions cite, here and in the crates above. No entry's promise rests on it, and a reader of the definitions may pass it over.
 use Prim.Native.Nat.{_≤_}
 use mathlib.Core.List.{List}
 use lib.ListN.{drop}

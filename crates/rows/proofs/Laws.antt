@@ -106,7 +106,7 @@ module _ (rs : List Row) where
   zero-none e z =
       ⊎-elim (λ f. absurd (omega (arith, leb-true 1 (firstOf rs) (first-passes (leb 1) rs (firstOf rs) e f)))) (λ none. none) (first-or-none rs)
 
-  pub none-zero : NoneApplies rs → firstOf rs ≡ 0
+  none-zero : NoneApplies rs → firstOf rs ≡ 0
   none-zero = none-is (λ n. n) 0 rs
 
   pub first-at-most : (most : ℕ) → numbersPass (λ n. leb n most) rs ≡ true → firstOf rs ≤ most

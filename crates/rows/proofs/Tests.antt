@@ -55,8 +55,8 @@ pub skip-it : {A : Type 0} (t : Bool) (k rest r : A) → t ≡ false → r ≡ r
 skip-it t k rest r e h = rw e h
 
 -- a test that a call answered: what it returned is the definition's, and the branch went one way
-pub told : (x t b : Bool) → x ≡ t → x ≡ b → t ≡ b
-told x t b p q = sym p ∙ q
+pub told-is : (x t b : Bool) → x ≡ t → x ≡ b → t ≡ b
+told-is x t b p q = sym p ∙ q
 
 pub told-not : (x t b : Bool) → x ≡ t → not x ≡ b → not t ≡ b
 told-not x t b p q = sym (ap not p) ∙ q
@@ -89,7 +89,7 @@ told-lt x y k p q = rw (← p) (lt-ltb k x q)
 pub told-le : (x y k : ℕ) → x ≡ y → x ≤ k → ltb k y ≡ false
 told-le x y k p q = rw (← p) (le-ltb k x q)
 
-pub ruleset first = (told-not, told-good, eq-told, ne-told, lt-told, le-told, told-lt, told-le, take-it, skip-it, told, not-true-it, not-false-it, lt-ltb, le-ltb, le-leb, lt-leb, eq-eqb, ne-eqb)
+pub ruleset first = (told-not, told-good, eq-told, ne-told, lt-told, le-told, told-lt, told-le, take-it, skip-it, told-is, not-true-it, not-false-it, lt-ltb, le-ltb, le-leb, lt-leb, eq-eqb, ne-eqb)
 
 -- what holds of each way out of a test holds of the whole
 pub cond-cases : {A : Type 0} (P : A → Type 0) (b : Bool) (x y : A) → (b ≡ true → P x) → (b ≡ false → P y) → P (cond b x y)

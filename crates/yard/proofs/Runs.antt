@@ -10,7 +10,7 @@ use Rattle.rows.proofs.Laws.{decided}
 use Rattle.message.specs.Room.{hopsLeft}
 use Rattle.engine.specs.Answer.{sentOn}
 use Rattle.yard.specs.Walk.{Visit, sentAt, endOf, nextOf, walkFrom}
-use Rattle.yard.specs.Faithful.{Run, run-over, run-on, RunOf}
+use Rattle.yard.specs.Faithful.{Walks, run-over, run-on, RunOf}
 use Rattle.yard.proofs.Turns.{goes-on, falls, from-ends, from-on}
 
 module _ (yard times : List ℕ) where
@@ -30,7 +30,7 @@ module _ (yard times : List ℕ) where
   walk-runs v = runs (suc (hopsLeft (v .arrival .message))) v (omega arith)
 
   -- two runs from one visit are equal
-  pub one-run : {v : Visit} {vs ws : List Visit} {end end′ : ℕ} {last last′ : List ℕ} → Run yard times v vs end last → Run yard times v ws end′ last′
+  pub one-run : {v : Visit} {vs ws : List Visit} {end end′ : ℕ} {last last′ : List ℕ} → Walks yard times v vs end last → Walks yard times v ws end′ last′
       → (vs ≡ ws) × (end ≡ end′) × (last ≡ last′)
   one-run (run-over off) (run-over off′) = (refl, refl, refl)
   one-run (run-over off) (run-on on r) = absurd (off on)

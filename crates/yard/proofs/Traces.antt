@@ -15,7 +15,7 @@ use Rattle.drops.proofs.Laws.{Taken, taken}
 use Rattle.engine.proofs.Laws.{blocks-below-hops}
 use Rattle.yard.specs.Yard.{sheetAt}
 use Rattle.yard.specs.Walk.{Visit, sentAt, nextOf, Walk, walkFrom}
-use Rattle.yard.specs.Faithful.{Run, run-over, run-on, Accepts, blockFor, EndsWell, mostSteps}
+use Rattle.yard.specs.Faithful.{Walks, run-over, run-on, Accepts, blockFor, EndsWell, mostSteps}
 use Rattle.yard.proofs.Turns.{Onward, Ending, full, longer, goes-on, stops, next-is, next-accepts, falls}
 use Rattle.yard.proofs.Runs.{walk-runs}
 
@@ -29,7 +29,7 @@ abbrev pub TraceOf : List ℕ → List ℕ → Visit → Walk → Type 0
 TraceOf yard times v w = Trace yard times v (w .visits) (w .end) (w .last)
 
 module _ (yard times : List ℕ) where
-  pub traced : {v : Visit} {vs : List Visit} {end : ℕ} {last : List ℕ} → Run yard times v vs end last → Accepts yard v → Trace yard times v vs end last
+  pub traced : {v : Visit} {vs : List Visit} {end : ℕ} {last : List ℕ} → Walks yard times v vs end last → Accepts yard v → Trace yard times v vs end last
   traced {v} (run-over off) accepts = ends accepts (stops yard times v accepts off)
   traced {v} (run-on on r) accepts = let o = goes-on yard times v on in goes o (traced r (next-accepts yard times v o))
 
@@ -56,7 +56,7 @@ module _ (yard times : List ℕ) where
   steps-by-room {v} (goes o t) = omega (arith, o .grown .long, rw (next-is yard times v o) at (steps-by-room t))
 
   -- so that no run has more than 28, also one that its first router drops
-  steps-by-size : {v : Visit} {vs : List Visit} {end : ℕ} {last : List ℕ} → Run yard times v vs end last → length vs ≤ mostSteps
+  steps-by-size : {v : Visit} {vs : List Visit} {end : ℕ} {last : List ℕ} → Walks yard times v vs end last → length vs ≤ mostSteps
   steps-by-size (run-over off) = omega arith
   steps-by-size {v} (run-on on r) =
       let accepts = goes-on yard times v on .accepts in

@@ -26,7 +26,7 @@ use Rattle.yard.specs.declared.Holder.the-variants.{Held, Nobody}
 use Rattle.yard.specs.Yard.{sheetAt, holderIn}
 use Rattle.yard.specs.Holders.{LowestHolder, NobodyHolds}
 use Rattle.yard.specs.Faithful.{Accepts, blockFor, EndsWell}
-use Rattle.yard.specs.Walk.{toGroup, nobodyThere, Visit, visit, rowsFor, sentAt, endBy, endOf, nextOf, ends, entered, walkBy, walkFrom, nextBy}
+use Rattle.yard.specs.Walk.{toGroup, nobodyThere, Visit, visit, rowsFor, sentAt, endBy, endOf, nextOf, endsAt, enters, walkBy, walkFrom, nextBy}
 use Rattle.yard.proofs.Holders.{holder-found, holder-unique}
 use Rattle.yard.proofs.Calls.{sent-dropped, sent-taken}
 
@@ -180,18 +180,18 @@ module _ (yard times : List ℕ) (v : Visit) where
     falls = rw next-is (o .grown .falls)
 
   -- one turn of the definition
-  pub walk-ends : (endOf yard sent ≡ sentOn → ⊥) → (n : ℕ) → walkBy (suc n) yard times v ≡ ends (endOf yard sent) v (sent .message)
+  pub walk-ends : (endOf yard sent ≡ sentOn → ⊥) → (n : ℕ) → walkBy (suc n) yard times v ≡ endsAt (endOf yard sent) v (sent .message)
   unfolding walkBy
   walk-ends e n = rw (ne-eqb (endOf yard sent) sentOn e)
 
-  pub walk-on : endOf yard sent ≡ sentOn → (n : ℕ) → walkBy (suc n) yard times v ≡ entered v (walkBy n yard times (nextOf yard sent))
+  pub walk-on : endOf yard sent ≡ sentOn → (n : ℕ) → walkBy (suc n) yard times v ≡ enters v (walkBy n yard times (nextOf yard sent))
   unfolding walkBy
   walk-on e n = rw (eq-eqb (endOf yard sent) sentOn e)
 
-  pub from-ends : (endOf yard sent ≡ sentOn → ⊥) → walkFrom yard times v ≡ ends (endOf yard sent) v (sent .message)
+  pub from-ends : (endOf yard sent ≡ sentOn → ⊥) → walkFrom yard times v ≡ endsAt (endOf yard sent) v (sent .message)
   unfolding walkFrom
   from-ends e = walk-ends e (hopsLeft m)
 
-  pub from-on : endOf yard sent ≡ sentOn → walkFrom yard times v ≡ entered v (walkFrom yard times (nextOf yard sent))
+  pub from-on : endOf yard sent ≡ sentOn → walkFrom yard times v ≡ enters v (walkFrom yard times (nextOf yard sent))
   unfolding walkFrom
   from-on e = walk-on e (hopsLeft m) ∙ rw (falls (goes-on e))

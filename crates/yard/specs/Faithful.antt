@@ -31,15 +31,15 @@ HolderIs yard address Nobody = NobodyHolds yard address
 
 -- a run from a visit, with its visits, its end and the last message sent: a visit that ends otherwise than by 100 is the last, and
 -- one that ends by 100 leads to the next
-pub data Run (yard times : List ℕ) : Visit → List Visit → ℕ → List ℕ → Type 0 where
+pub data Walks (yard times : List ℕ) : Visit → List Visit → ℕ → List ℕ → Type 0 where
   run-over : {v : Visit} → (endOf yard (sentAt yard times v) ≡ sentOn → ⊥)
-      → Run yard times v (v ∷ []) (endOf yard (sentAt yard times v)) (sentAt yard times v .message)
+      → Walks yard times v (v ∷ []) (endOf yard (sentAt yard times v)) (sentAt yard times v .message)
   run-on : {v : Visit} {later : List Visit} {end : ℕ} {last : List ℕ} → endOf yard (sentAt yard times v) ≡ sentOn
-      → Run yard times (nextOf yard (sentAt yard times v)) later end last → Run yard times v (v ∷ later) end last
+      → Walks yard times (nextOf yard (sentAt yard times v)) later end last → Walks yard times v (v ∷ later) end last
 
 -- a walk is a run from a visit
 abbrev pub RunOf : List ℕ → List ℕ → Visit → Walk → Type 0
-RunOf yard times v w = Run yard times v (w .visits) (w .end) (w .last)
+RunOf yard times v w = Walks yard times v (w .visits) (w .end) (w .last)
 
 -- the router of a visit drops nothing
 abbrev pub Accepts : List ℕ → Visit → Type 0

@@ -95,12 +95,12 @@ pub record Walk : Type 0 where
   pub last : List ℕ
 
 -- it ends at this visit
-abbrev pub ends : ℕ → Visit → List ℕ → Walk
-ends end v last = record { end = end; visits = v ∷ []; last = last }
+abbrev pub endsAt : ℕ → Visit → List ℕ → Walk
+endsAt end v last = record { end = end; visits = v ∷ []; last = last }
 
 -- it goes on from this visit
-abbrev pub entered : Visit → Walk → Walk
-entered v later = record { end = later .end; visits = v ∷ later .visits; last = later .last }
+abbrev pub enters : Visit → Walk → Walk
+enters v later = record { end = later .end; visits = v ∷ later .visits; last = later .last }
 
 -- refused: nobody is entered
 abbrev pub refusedWalk : ℕ → Walk
@@ -112,8 +112,8 @@ walkBy zero yard times v = refusedWalk 0
 walkBy (suc steps) yard times v =
     let sent = sentAt yard times v in
     let end = endOf yard sent in
-    let later = entered v (walkBy steps yard times (nextOf yard sent)) in
-    cond (eqb end sentOn) later (ends end v (sent .message))
+    let later = enters v (walkBy steps yard times (nextOf yard sent)) in
+    cond (eqb end sentOn) later (endsAt end v (sent .message))
 
 -- the hops that are not yet used, and one, are steps enough
 unfoldable pub walkFrom : List ℕ → List ℕ → Visit → Walk
@@ -144,5 +144,5 @@ pub record Tells (w : Walk) (output : List ℕ) (r : Walked) (output′ : List �
   pub sends : output′ ≡ splice output 0 (w .last)
 
 -- what the walk promises
-abbrev pub WalkMeets : List ℕ → List ℕ → Visit → List ℕ → Walked → List ℕ → Type 0
-WalkMeets yard times v output r output′ = Tells (walkOf yard times v (length output)) output r output′
+abbrev pub WalkTells : List ℕ → List ℕ → Visit → List ℕ → Walked → List ℕ → Type 0
+WalkTells yard times v output r output′ = Tells (walkOf yard times v (length output)) output r output′

@@ -10,7 +10,7 @@ ghost use Rattle.message.specs.Format.{most, request};
 ghost use Rattle.message.specs.Blocks.{standardCount};
 ghost use Rattle.drops.specs.Arrival.{arrival};
 ghost use Rattle.yard.specs.Yard.{sheetSize, mostRouters, routersIn, validAt, yardSizeOk, holderIn};
-ghost use Rattle.yard.specs.Walk.{visit, sentFor, sentAt, refusedWalk, walkedOf, walkFrom, Tells, WalkMeets};
+ghost use Rattle.yard.specs.Walk.{visit, sentFor, sentAt, refusedWalk, walkedOf, walkFrom, Tells, WalkTells};
 ghost use Rattle.yard.specs.Inside.{Counted, YardChecked, CanEnter, Called, Hopped, Ended};
 
 // Bytes of a router's sheet in a yard, and the most routers.
@@ -324,7 +324,7 @@ pub fn walk(
     ttl: u32,
     output: &mut [u8],
 ) -> Walked
-    ensures { λ r. ⌜ WalkMeets (now (yard .entry)) (now (times .entry)) (visit start (arrival (now (message .entry)) destination receiving ttl))
+    ensures { λ r. ⌜ WalkTells (now (yard .entry)) (now (times .entry)) (visit start (arrival (now (message .entry)) destination receiving ttl))
         (now (output .entry)) r (now (output .exit)) ⌝ }
 {
     let routers = yard.len() / SHEET_SIZE;
