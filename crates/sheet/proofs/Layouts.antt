@@ -1,17 +1,16 @@
 -- What the check finds, piece by piece: each block by its rules, each way in which a sheet is noLayout, and the layout.
-use Prim.Native.Nat.{ℕ, _+_, _*_, _-_, _/_, _%_, _≤_, _<_}
-use mathlib.Core.Bool.{Bool, true, false, _&&_, not}
+use Prim.Native.Nat.{ℕ, _+_, _*_, _-_, _≤_, _<_}
+use mathlib.Core.Bool.{Bool, true, false, not}
 use mathlib.Core.List.{List}
 use mathlib.Core.Path.{_≡_, sym, ap, _∙_}
-use native.Mathlib.Omega.{arith}
 use native.Mathlib.Nat.{add-sub-cancel-left}
-use lib.Dec.{leb, eqb}
+use lib.Dec.{eqb}
 use lib.ListN.{length, take, drop}
-use borrow.Author.Tests.{lt-ltb, le-ltb, lt-leb, le-leb, leb-true, eqb-true, not-true, not-false}
+use borrow.Author.Tests.{lt-ltb, le-ltb, lt-leb, le-leb, not-true, not-false}
 use Rattle.block.specs.Block.{blockSize}
 use Rattle.entry.specs.Interface.{interfaceSize, mostInterfaces}
 use Rattle.entry.specs.Route.{routeSize}
-use Rattle.rows.proofs.Laws.{both-of}
+use Rattle.wire.proofs.Laws.{wholes}
 use Rattle.sheet.specs.Every.{every}
 use Rattle.sheet.specs.Rules.{interfaceKind, routeKind, interfaceRight, routeRight, blockOk}
 use Rattle.sheet.specs.Sheet.{mostBlocks, sheetSizeOk, blocks, interfaceBlocks, interfacesIn, blockOkAt, validSheet, noLayout, counted, layoutOf}
@@ -30,19 +29,6 @@ pub route-block : (s : List ℕ) (k m interfaces : ℕ) (x : Bool) → m ≡ int
 unfolding blockOkAt
 route-block s k m interfaces x e g h f = rw (← e, ← g, le-ltb k m h) (rw add-sub-cancel-left at f)
 
--- the length of a sheet: 1 to 16 whole blocks
-pub record Sized (size : ℕ) : Type 0 where
-  pub whole : size ≡ blockSize * (size / blockSize)
-  pub some : 1 ≤ size / blockSize
-  pub few : size / blockSize ≤ mostBlocks
-
-pub sized : (size : ℕ) → sheetSizeOk size ≡ true → Sized size
-sized size e =
-    let p = both-of (eqb (size % blockSize) 0 && leb 1 (size / blockSize)) (leb (size / blockSize) mostBlocks) e in
-    let q = both-of (eqb (size % blockSize) 0) (leb 1 (size / blockSize)) (p .0) in
-    let r : size % blockSize ≡ 0 = eqb-true (size % blockSize) 0 (q .0) in
-    record { whole = omega arith; some = leb-true 1 (size / blockSize) (q .1); few = leb-true (size / blockSize) mostBlocks (p .1) }
-
 -- what the code has found out, test by test
 module _ (s : List ℕ) (size : Bool) (es : size ≡ sheetSizeOk (length s)) (r : Layout) where
   pub bad-size : not size ≡ true → r ≡ noLayout → r ≡ layoutOf s
@@ -51,7 +37,7 @@ module _ (s : List ℕ) (size : Bool) (es : size ≡ sheetSizeOk (length s)) (r 
 
   module _ (h : not size ≡ false) where
     pub few-blocks : blocks s ≤ mostBlocks
-    few-blocks = sized (length s) (sym es ∙ not-false size h) .few
+    few-blocks = wholes blockSize mostBlocks (length s) (sym es ∙ not-false size h) .few
 
     module _ (l : Layout) (el : l ≡ counted s) where
       pub m-told : l .blocks ≡ interfaceBlocks s

@@ -13,9 +13,9 @@ use Rattle.entry.specs.Interface.{interfaceSize, mostInterfaces}
 use Rattle.entry.specs.Route.{routeSize}
 use Rattle.sheet.specs.Every.{every}
 use Rattle.sheet.specs.Rules.{interfaceKind, routeKind, switchesOk, interfaceRight, routeRight, entriesOk, blockOk}
-use Rattle.sheet.specs.Sheet.{sheetSizeOk, blocks, sheetBlock, interfaceBlocksIn, interfaceBlocks, interfacesIn, blockOkAt, validSheet}
+use Rattle.sheet.specs.Sheet.{mostBlocks, sheetSizeOk, blocks, sheetBlock, interfaceBlocksIn, interfaceBlocks, interfacesIn, blockOkAt, validSheet}
 use Rattle.sheet.proofs.Numbered.{every-one}
-use Rattle.sheet.proofs.Layouts.{Sized, sized}
+use Rattle.wire.proofs.Laws.{Wholes, wholes}
 
 -- no more interface blocks than blocks
 blocks-within : (s : List ℕ) (n : ℕ) → interfaceBlocksIn s n ≤ n
@@ -26,7 +26,7 @@ blocks-within s (suc n) =
     omega (arith, blocks-within s n)
 
 pub record Valid (s : List ℕ) : Type 0 where
-  pub size : Sized (length s)
+  pub size : Wholes blockSize mostBlocks (length s)
   pub within : interfaceBlocks s ≤ blocks s
   pub few : interfacesIn s ≤ mostInterfaces
   pub each : (k : ℕ) → k < blocks s → blockOkAt s k ≡ true
@@ -41,7 +41,7 @@ valid s e =
     let q = both-of (z && m) f (p .0) in
     let r = both-of z m (q .0) in
     record {
-      size = sized (length s) (r .0);
+      size = wholes blockSize mostBlocks (length s) (r .0);
       within = blocks-within s (blocks s);
       few = leb-true (interfacesIn s) mostInterfaces (q .1);
       each = λ k h. every-one (blockOkAt s) (blocks s) k (p .1) h;

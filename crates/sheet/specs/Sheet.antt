@@ -1,11 +1,11 @@
 -- A valid sheet: 1 to 16 blocks of 512 bytes, interface blocks first, at least one, then route blocks; only the last block of
 -- a kind may be partly filled; at most 64 interfaces.
-use Prim.Native.Nat.{ℕ, zero, suc, _+_, _*_, _-_, _/_, _%_}
+use Prim.Native.Nat.{ℕ, zero, suc, _+_, _*_, _-_, _/_}
 use mathlib.Core.Bool.{Bool, true, false, _&&_, cond}
 use mathlib.Core.List.{List}
 use lib.Dec.{leb, ltb, eqb}
 use lib.ListN.{length}
-use Rattle.wire.specs.Parts.{part}
+use Rattle.wire.specs.Parts.{part, wholeParts}
 use Rattle.block.specs.Block.{blockSize, kindOf, usedIn, entriesEach}
 use Rattle.entry.specs.Interface.{interfaceSize, mostInterfaces}
 use Rattle.entry.specs.Route.{routeSize}
@@ -19,7 +19,7 @@ mostBlocks = 16
 
 -- a length of 1 to 16 whole blocks
 abbrev pub sheetSizeOk : ℕ → Bool
-sheetSizeOk size = eqb (size % blockSize) 0 && leb 1 (size / blockSize) && leb (size / blockSize) mostBlocks
+sheetSizeOk = wholeParts blockSize mostBlocks
 
 -- how many blocks there are
 abbrev pub blocks : List ℕ → ℕ

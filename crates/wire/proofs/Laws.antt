@@ -4,13 +4,16 @@ use Prim.Native.Nat.{ℕ, zero, suc, _+_, _*_, _/_, _%_, _^_, _-_, _≤_, _<_}
 use mathlib.Core.Path.{_≡_, refl, sym, ap, _∙_}
 use mathlib.Core.List.{List, _++_, append-assoc}
 use native.Mathlib.Omega.{arith}
-use native.Mathlib.Nat.{add-assoc, zero-add, add-zero, pow-suc, mod-lt, div-add-mod', div-lt-iff-lt-mul, one-le-pow}
+use native.Mathlib.Nat.{add-assoc, zero-add, add-zero, pow-suc, mod-lt, div-add-mod', div-lt-iff-lt-mul, one-le-pow, mul-comm}
 use lib.Pow.{pow-add}
-use lib.Dec.{lit≤}
+use mathlib.Core.Bool.{true, _&&_}
+use borrow.Author.Tests.{leb-true, eqb-true}
+use lib.Dec.{leb, eqb, lit≤}
 use lib.ListN.{length, take, drop, length-append, length-drop, List·getD-append}
 use lib.Seq.{take-at, drop-at, drop-drop, getD-take, getD-drop, getD-append-add, length-take-le}
+use Rattle.rows.proofs.Laws.{both-of}
 use Rattle.wire.specs.Numbers.{byteAt, be, bytes}
-use Rattle.wire.specs.Parts.{part, splice}
+use Rattle.wire.specs.Parts.{part, splice, wholeParts}
 
 -- two things equal to a third
 pub both-are : {A : Type 0} {x a b : A} → a ≡ x → b ≡ x → a ≡ b
@@ -154,3 +157,17 @@ be-bytes (suc d) v h =
       be-bytes d (v % B) (mod-lt v pos),
     )
     (div-add-mod' v B)
+
+-- what a size of whole parts is
+pub record Wholes (each most size : ℕ) : Type 0 where
+  pub whole : size ≡ each * (size / each)
+  pub some : 1 ≤ size / each
+  pub few : size / each ≤ most
+
+pub wholes : (each most size : ℕ) → wholeParts each most size ≡ true → Wholes each most size
+wholes each most size e =
+    let p = both-of (eqb (size % each) 0 && leb 1 (size / each)) (leb (size / each) most) e in
+    let q = both-of (eqb (size % each) 0) (leb 1 (size / each)) (p .0) in
+    let none : size % each ≡ 0 = eqb-true (size % each) 0 (q .0) in
+    let all = div-add-mod' size each in
+    record { whole = sym all ∙ rw (none, add-zero) (mul-comm (size / each) each); some = leb-true 1 (size / each) (q .1); few = leb-true (size / each) most (p .1) }

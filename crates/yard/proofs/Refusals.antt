@@ -27,4 +27,4 @@ pub walk-ready : (yard counts times : List ℕ) (router : ℕ) (ok : Bool) → Y
     → router < routersIn yard → CanEnter yard counts times router
 walk-ready yard counts times router ok checked right timed there =
     let s = yard-right yard (sym (checked .is) ∙ not-false ok right) in
-    record { whole = s .whole; few = s .few; there = there; timed = timed; counted = checked .counted (not-false ok right) }
+    record { whole = omega (arith, s .whole); few = s .few; there = there; timed = timed; counted = checked .counted (not-false ok right) }

@@ -1,5 +1,5 @@
 -- Laws of a yard: its sheets are checked one by one, and the routers are asked in their order who holds an address.
-use Prim.Native.Nat.{ℕ, suc, _+_, _*_, _-_, _/_, _%_, _≤_, _<_}
+use Prim.Native.Nat.{ℕ, suc, _+_, _*_, _-_, _/_, _≤_, _<_}
 use mathlib.Core.Bool.{Bool, true, false, not, _&&_}
 use mathlib.Core.List.{List}
 use mathlib.Core.Logic.{⊎-elim}
@@ -7,10 +7,10 @@ use mathlib.Core.Path.{_≡_, sym, ap, _∙_}
 use native.Mathlib.Omega.{arith}
 use native.Mathlib.Nat.{add-sub-cancel-left, eq-or-lt-of-le}
 use native.Mathlib.Numerals.{add-one}
-use borrow.Author.Tests.{leb-true, not-true, not-false}
-use lib.Dec.{leb, eqb}
+use borrow.Author.Tests.{not-true, not-false}
 use lib.ListN.{length, take, drop, getD, set, length-set}
 use lib.Seq.{getD-set-same, getD-set-other}
+use Rattle.wire.proofs.Laws.{Wholes, wholes}
 use Rattle.rows.proofs.Laws.{both-of}
 use Rattle.sheet.specs.Every.{every}
 use Rattle.sheet.specs.Sheet.{layoutOf}
@@ -67,24 +67,15 @@ module _ (yard : List ℕ) (n i : ℕ) (low : i ≤ n) (high : n ≤ i) where
   pub counted-all : (counts : List ℕ) → Counted yard counts i → Counted yard counts n
   counted-all counts c = rw all-of at c
 
--- the sizes of a yard
-pub record Sized (size : ℕ) : Type 0 where
-  pub whole : sheetSize * (size / sheetSize) ≤ size
-  pub few : size / sheetSize ≤ mostRouters
-
-pub sized : (size : ℕ) → yardSizeOk size ≡ true → Sized size
-sized size e =
-    let p = both-of (eqb (size % sheetSize) 0 && leb 1 (size / sheetSize)) (leb (size / sheetSize) mostRouters) e in
-    record { whole = omega arith; few = leb-true (size / sheetSize) mostRouters (p .1) }
-
+-- a yard is checked: its size, and its sheets
 module _ (yard : List ℕ) (size : Bool) (told : size ≡ yardSizeOk (length yard)) where
   pub wrong-size : (counts : List ℕ) → not size ≡ true → YardChecked yard false counts
   unfolding yardOk
   wrong-size counts e = record { is = rw (← told, not-true size e); counted = λ z. let y : _≡_ {A = ℕ} 0 1 = cc in absurd (omega arith) }
 
   module _ (right : not size ≡ false) where
-    yard-sized : Sized (length yard)
-    yard-sized = sized (length yard) (sym told ∙ not-false size right)
+    yard-sized : Wholes sheetSize mostRouters (length yard)
+    yard-sized = wholes sheetSize mostRouters (length yard) (sym told ∙ not-false size right)
 
     pub sheets-few : length yard / sheetSize ≤ mostRouters
     sheets-few = yard-sized .few
@@ -97,9 +88,9 @@ module _ (yard : List ℕ) (size : Bool) (told : size ≡ yardSizeOk (length yar
     yard-checked ok counts e = record { is = rw (← told, not-false size right) (e .0); counted = λ z. e .1 }
 
 -- a yard that is right: its sizes, and each of its sheets
-pub yard-right : (yard : List ℕ) → yardOk yard ≡ true → Sized (length yard)
+pub yard-right : (yard : List ℕ) → yardOk yard ≡ true → Wholes sheetSize mostRouters (length yard)
 unfolding yardOk
-yard-right yard e = sized (length yard) (both-of (yardSizeOk (length yard)) _ e .0)
+yard-right yard e = wholes sheetSize mostRouters (length yard) (both-of (yardSizeOk (length yard)) _ e .0)
 
 -- the count of a router that is asked
 pub count-told : (yard counts : List ℕ) (n i : ℕ) → Counted yard counts n → i < n

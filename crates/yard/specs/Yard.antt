@@ -1,10 +1,9 @@
 -- A yard (document 01, "Walk"): 1 to 32 sheets of 1024 bytes, one for each router, and who of them holds an address.
-use Prim.Native.Nat.{ℕ, zero, suc, _+_, _*_, _/_, _%_}
+use Prim.Native.Nat.{ℕ, zero, suc, _+_, _*_, _/_}
 use mathlib.Core.Bool.{Bool, _&&_}
 use mathlib.Core.List.{List}
-use lib.Dec.{leb, eqb}
 use lib.ListN.{length}
-use Rattle.wire.specs.Parts.{part}
+use Rattle.wire.specs.Parts.{part, wholeParts}
 use Rattle.sheet.specs.Every.{every}
 use Rattle.sheet.specs.Sheet.{layoutOf}
 use Rattle.sheet.specs.Tables.{holderOf}
@@ -35,7 +34,7 @@ validAt yard i = layoutOf (sheetAt yard i) .valid
 
 -- 1 to 32 whole sheets
 abbrev pub yardSizeOk : ℕ → Bool
-yardSizeOk size = eqb (size % sheetSize) 0 && leb 1 (size / sheetSize) && leb (size / sheetSize) mostRouters
+yardSizeOk = wholeParts sheetSize mostRouters
 
 -- and each of them valid
 unfoldable pub yardOk : List ℕ → Bool
