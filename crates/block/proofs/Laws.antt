@@ -7,7 +7,7 @@ use native.Mathlib.Omega.{arith}
 use native.Mathlib.Nat.{le-div-iff-mul-le}
 use lib.Dec.{leb, eqb}
 use borrow.Author.Tests.{leb-true, eqb-true}
-use Rattle.rows.proofs.Tests.{both-of, parts}
+use Rattle.rows.proofs.Laws.{both-of, parts}
 use Rattle.block.specs.Block.{usedIn, entriesRoom, entriesEach, filledOk, frameOk}
 
 -- entries in use fit between the head and the switches

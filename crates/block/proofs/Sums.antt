@@ -13,7 +13,7 @@ use Rattle.wire.specs.Numbers.{byteAt, be, be32}
 use Rattle.block.specs.Sum.{rightSum, carried, sumFrom, sumOk}
 use Rattle.block.specs.Block.{blockSize}
 use Rattle.block.specs.Inside.{wordSize, blockWords, words}
-use Rattle.rows.proofs.Tests.{same-flag, both-true, both-of}
+use Rattle.rows.proofs.Laws.{same-flag, both-true, both-of}
 
 -- the loop: one word more, and all of them
 pub words-more : (b : List ℕ) (sum from i x : ℕ) → sum + words b from ≡ words b i → x ≡ be32 b (wordSize * i) → sum + x + words b from ≡ words b (i + 1)

@@ -8,8 +8,7 @@ use native.Mathlib.Omega.{arith}
 use lib.Dec.{leb, ltb, eqb}
 use borrow.Author.Tests.{ltb-true, ltb-false, leb-true, eqb-true, le-ltb, ne-eqb}
 use Rattle.rows.specs.Rows.{NoneApplies}
-use Rattle.rows.proofs.Laws.{none-is, by-rows, first-passes}
-use Rattle.rows.proofs.Tests.{neither-of, cond-cases}
+use Rattle.rows.proofs.Laws.{none-is, by-rows, first-passes, neither-of, cond-cases}
 use Rattle.clock.specs.declared.Clock.{Clock}
 use Rattle.clock.specs.declared.Tick.{Tick}
 use Rattle.clock.specs.declared.Units.{Units}

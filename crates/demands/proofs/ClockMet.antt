@@ -6,7 +6,7 @@ use mathlib.Core.Path.{_≡_, refl, sym, _∙_}
 use borrow.Author.Tests.{ltb-true, ltb-false, le-ltb, lt-ltb, le-leb, lt-leb}
 use lib.Dec.{ltb}
 use Rattle.rows.specs.Rows.{byFirst}
-use Rattle.rows.proofs.Tests.{decided}
+use Rattle.rows.proofs.Laws.{decided}
 use Rattle.clock.specs.declared.Clock.{Clock}
 use Rattle.clock.specs.declared.Units.{Units}
 use Rattle.clock.specs.Clock.{lastTime, timeFor, startOf, advanceOf, arrivalOf}

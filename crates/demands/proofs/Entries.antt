@@ -1,15 +1,15 @@
 -- Of the code: the six entries that a host calls. Each has its own theorem, with no `requires`: on every input it ends, does nothing
 -- undefined, and leaves what its `ensures` says (`Post`), which here is carried to the demands.
-use Prim.Native.Nat.{ℕ, _+_, _≤_, _<_}
+use Prim.Native.Nat.{ℕ, _+_, _^_, _≤_, _<_}
 use mathlib.Core.Path.{_≡_, refl, sym, ap, subst, _∙_}
 use mathlib.Core.List.{List, _++_}
 use denote.Ref.{now}
 use borrow.Author.Tests.{lt-ltb, le-ltb, eq-eqb, ne-eqb, ltb-true, ltb-false}
 use mathlib.Core.Logic.{⊎-elim}
-use lib.ListN.{length, take}
+use lib.ListN.{length}
 use lib.Seq.{take-append-seam}
 use Rattle.rows.specs.Rows.{byFirst, NoneApplies}
-use Rattle.rows.proofs.Tests.{decided}
+use Rattle.rows.proofs.Laws.{decided}
 use Rattle.wire.specs.Numbers.{be, bytes, be32, bytes32}
 use Rattle.wire.specs.Parts.{splice}
 use Rattle.wire.proofs.Laws.{be-within, splice-front}
@@ -50,7 +50,7 @@ use Rattle.servicebough.proofs.bough_walk.Met as walk-proof
 use Rattle.servicebough.proofs.bough_walk.Reads as walk-ensures
 use Rattle.demands.specs.Engine.{Call, run, rows, Demand1, Demand2}
 use Rattle.demands.specs.Walk.{Told, told, callAt, Run, lastReceived, Truth, Demand3}
-use Rattle.demands.specs.Entries.{HandsTick, HandsWalk}
+use Rattle.demands.specs.Entries.{HandsTick, stepCall, HandsWalk, AnswerTells}
 use Rattle.demands.proofs.EngineMet.{engine-meets}
 use Rattle.demands.proofs.WalkMet.{walkTold, walk-meets}
 
@@ -95,11 +95,6 @@ unix-is-handed κs a x e p = p
 
 pub arrival-is-handed : (κs : _) (a : _) (x : _) (e : _) → clock-arrival-ensures.Post κs a x e → x ≡ arrivalOf (a .0)
 arrival-is-handed κs a x e p = p
-
--- the call that the arguments of a step make: message, destination, receiving interface, TTL, time, sheet, and what is lent
-abbrev pub stepCall : List ℕ → ℕ → ℕ → ℕ → ℕ → List ℕ → List ℕ → List ℕ → List ℕ → Call
-stepCall message destination receiving ttl time sheet recent output note =
-    record { arrival = arrival message destination receiving ttl; time = time; sheet = sheet; recent = recent; output = output; note = note }
 
 step-is : (c : Call) (o : Outcome) → o ≡ run stepOf c → Demand1 c o × Demand2 c o
 step-is c o e = subst (λ (x : Outcome). Demand1 c x × Demand2 c x) (sym e) (engine-meets c)
@@ -174,7 +169,7 @@ module _ (answer : List ℕ) (room : answerSize ≤ length answer) (a b c d : �
   at-place k h =
       ap (be32 (splice answer 0 four)) (sym (zero-add k)) ∙ be-within answer 0 four (omega (arith, four-long)) 2 k (omega (arith, four-long))
 
-  read-back : a < 4294967296 → b < 4294967296 → c < 4294967296 → d < 4294967296
+  read-back : a < 2 ^ 32 → b < 2 ^ 32 → c < 2 ^ 32 → d < 2 ^ 32
       → (be32 (splice answer 0 four) 0 ≡ a) × (be32 (splice answer 0 four) 4 ≡ b) × (be32 (splice answer 0 four) 8 ≡ c) × (be32 (splice answer 0 four) 12 ≡ d)
   unfolding be bytes
   read-back ha hb hc hd = (
@@ -184,16 +179,7 @@ module _ (answer : List ℕ) (room : answerSize ≤ length answer) (a b c d : �
     at-place 12 (lit≤ tt) ∙ omega arith,
   )
 
--- of a walk that is not refused and that its first router accepts: the 16 bytes say its end, its steps, its blocks and the length of its
--- last message, which stands in the output; and all that demand 3 says of them is true
-pub record AnswerTells (yard times : List ℕ) (v : Visit) (visits : List Visit) (end : ℕ) (last output answer : List ℕ) : Type 0 where
-  pub says-end : be32 answer 0 ≡ end
-  pub says-steps : be32 answer 4 ≡ length visits
-  pub says-blocks : be32 answer 8 ≡ standardCount last
-  pub says-length : be32 answer 12 ≡ length last
-  pub sends : take (length last) output ≡ last
-  pub truth : Truth yard times v visits end last
-
+-- the 16 bytes of a walk that its first router accepts
 module _ (yard times : List ℕ) (v : Visit) (output answer : List ℕ) (number : ℕ) (output′ answer′ : List ℕ) (room : answerSize ≤ length answer)
     (hands : HandsWalk (walkTold yard times v output) output answer number output′ answer′) (none : NoneApplies (walkRows yard times v (length output)))
     (accepts : NoneApplies (rows (callAt yard times v))) (visits : List Visit) (end : ℕ) (last : List ℕ) (is : Run stepOf yard times v visits end last) where

@@ -1,10 +1,10 @@
--- What is shown of the demands: the product meets them, they leave no choice, they shut wrong programs out, and the entries that a host
--- calls meet them; and the worked examples.
-pub mod EngineMet
-pub mod ClockMet
-pub mod WalkMet
-pub mod Opened
-pub mod Worked
+-- What is proved of the demands, in one page; the wrong programs that they shut out; and the entries that a host calls.
+pub mod Demands
 pub mod ShutOut
 pub mod Entries
-pub mod Demands
+-- Where it is proved that the product meets them and that they leave no choice; and the worked examples.
+mod EngineMet
+mod ClockMet
+mod WalkMet
+mod Opened
+mod Worked

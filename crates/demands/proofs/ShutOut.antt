@@ -7,7 +7,7 @@ use native.Mathlib.Omega.{arith}
 use lib.Dec.{lit≤}
 use lib.ListN.{length, take, getD}
 use Rattle.rows.specs.Rows.{firstOf, NoneApplies}
-use Rattle.drops.proofs.Laws.{zero-passes}
+use Rattle.rows.proofs.Laws.{zero-none}
 use Rattle.wire.specs.Numbers.{byteAt, be32}
 use Rattle.wire.specs.Parts.{splice}
 use Rattle.clock.specs.declared.Clock.{Clock}
@@ -57,7 +57,8 @@ unfolding opened asked ten one stranger lost
 passes = (refl, refl, refl, refl)
 
 accepted : (c : Call) → firstOf (rows c) ≡ 0 → NoneApplies (rows c)
-accepted c = zero-passes (c .arrival) (c .sheet) (c .recent) (length (c .output)) (length (c .note))
+unfolding opened
+accepted c = zero-none (rows c) refl
 
 roomy : HasRoom (message stranger) × HasRoom (message lost)
 unfolding opened asked stranger lost

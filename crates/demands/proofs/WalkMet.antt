@@ -11,25 +11,24 @@ use lib.Dec.{eqb}
 use lib.ListN.{length, take, getD, set, length-map, length-replicate}
 use lib.Seq.{take-append-seam, getD-take, length-take-le}
 use Rattle.rows.specs.Rows.{Row, firstOf, NoneApplies, IsFirst}
-use Rattle.rows.proofs.Tests.{decided}
-use Rattle.rows.proofs.Laws.{first-or-none, first-is, noted-is}
+use Rattle.rows.proofs.Laws.{decided, first-or-none, first-is, noted-is}
 use Rattle.wire.specs.Numbers.{be, be16, be32}
 use Rattle.wire.specs.Addresses.{multicast}
 use Rattle.wire.proofs.Laws.{splice-front}
 use Rattle.response.specs.declared.Block.{Block}
 use Rattle.response.specs.Code.{codeNoSpace}
 use Rattle.response.specs.Bytes.{blockBytes}
-use Rattle.message.specs.Format.{most, codeOffset}
+use Rattle.message.specs.Format.{most, codeOffset, noteSize}
 use Rattle.message.specs.Blocks.{lastCoded}
 use Rattle.drops.specs.Arrival.{arrival}
 use Rattle.drops.specs.Drop.{nearTtl}
-use Rattle.message.specs.Format.{noteSize}
 use Rattle.drops.proofs.Laws.{drop-numbers}
 use Rattle.engine.specs.Answer.{Sent, sentOn}
 use Rattle.engine.specs.Step.{Outcome, outcome, stepOf}
 use Rattle.yard.specs.Yard.{sheetAt}
 use Rattle.yard.specs.Walk.{toGroup, nobodyThere, Visit, visit, sentAt, endOf, nextOf, Walk, refusedWalk, walkFrom, walkRows, walkOf}
-use Rattle.yard.specs.Faithful.{LowestHolder, NobodyHolds, Walks, run-over, run-on, Starts, blockDue}
+use Rattle.yard.specs.Holders.{LowestHolder, NobodyHolds}
+use Rattle.yard.specs.Faithful.{Walks, run-over, run-on, Starts, blockDue}
 use Rattle.yard.proofs.Laws.{called, sent-short, end-not-on, end-group, end-nobody, end-goes, nobody-or-somebody, walk-runs, one-run, not-refused-walks, walk-is-faithful, steps-within}
 use Rattle.demands.specs.Engine.{Engine, rows, BlockOf, EngineMeets}
 use Rattle.demands.specs.Walk.{Told, Walker, told, blank, callAt, sent, to, did, Run, stays, group, nobody, goes, Truth, Demand3, WalkMeets}

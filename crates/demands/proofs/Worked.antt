@@ -41,12 +41,12 @@ failing [] = []
 failing (e ∷ es) = let rest = failing es in let here = e .number ∷ rest in cond (same (e .got) (e .said)) rest here
 
 -- of a walk: its end and steps, the blocks and the length of the last message
-abbrev pub told : Walk → List ℕ
-told w = w .end ∷ length (w .visits) ∷ standardCount (w .last) ∷ length (w .last) ∷ []
+abbrev pub summary : Walk → List ℕ
+summary w = w .end ∷ length (w .visits) ∷ standardCount (w .last) ∷ length (w .last) ∷ []
 
 -- of the last message: its codes; and its lines, outgoing, incoming and upstream address and code of each block
-abbrev pub codes : Walk → List ℕ
-codes w = map (λ (at : ℕ). byteAt (w .last) (at + codeOffset)) (standards (w .last))
+abbrev pub codesOf : Walk → List ℕ
+codesOf w = map (λ (at : ℕ). byteAt (w .last) (at + codeOffset)) (standards (w .last))
 
 abbrev pub linesAt : List ℕ → List ℕ → List ℕ
 linesAt m [] = []
@@ -61,14 +61,14 @@ unfoldable pub examples : List Example
 examples =
     let loop = address 198 51 100 1 in
     let full = traced loop 255 in
-    example 1 (told (traced 0 10) ++ lines (traced 0 10))
+    example 1 (summary (traced 0 10) ++ lines (traced 0 10))
     (101 ∷ 2 ∷ 2 ∷ 124
     ∷ address 192 0 2 1 ∷ address 198 51 100 1 ∷ address 198 51 100 2 ∷ 0
     ∷ address 198 51 100 2 ∷ address 203 0 113 1 ∷ 0 ∷ 0 ∷ [])
-    ∷ example 2 (told (traced loop 10) ++ codes (traced loop 10)) (101 ∷ 10 ∷ 10 ∷ 540 ∷ 0 ∷ 0 ∷ 9 ∷ 0 ∷ 9 ∷ 0 ∷ 9 ∷ 0 ∷ 9 ∷ 0 ∷ [])
-    ∷ example 3 (told full ++ (byteAt (full .last) 1423 ∷ [])) (101 ∷ 28 ∷ 27 ∷ 1424 ∷ 129 ∷ [])
-    ∷ example 4 (told (traced loop 1)) (101 ∷ 1 ∷ 1 ∷ 72 ∷ [])
-    ∷ example 5 (told (traced loop 0)) (8 ∷ 1 ∷ 0 ∷ 0 ∷ [])
+    ∷ example 2 (summary (traced loop 10) ++ codesOf (traced loop 10)) (101 ∷ 10 ∷ 10 ∷ 540 ∷ 0 ∷ 0 ∷ 9 ∷ 0 ∷ 9 ∷ 0 ∷ 9 ∷ 0 ∷ 9 ∷ 0 ∷ [])
+    ∷ example 3 (summary full ++ (byteAt (full .last) 1423 ∷ [])) (101 ∷ 28 ∷ 27 ∷ 1424 ∷ 129 ∷ [])
+    ∷ example 4 (summary (traced loop 1)) (101 ∷ 1 ∷ 1 ∷ 72 ∷ [])
+    ∷ example 5 (summary (traced loop 0)) (8 ∷ 1 ∷ 0 ∷ 0 ∷ [])
     ∷ example 6 (map (λ (i : Issue). i .time) (issues (startOf 1000 .clock) (1010 ∷ 1000 ∷ 1004 ∷ 1016 ∷ 1024 ∷ [])))
     (1010 ∷ 1010 ∷ 1012 ∷ 1018 ∷ 1024 ∷ [])
     ∷ example 7 (arrivalOf (unixOf 0 0 .units) ∷ []) (2122317824 ∷ [])

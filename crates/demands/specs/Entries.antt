@@ -1,17 +1,26 @@
 -- What the entries for C hand over: the demands are of numbers and lists, and these say how a clock's tick and a walk's telling go into
--- the bytes that a host lends. A step hands over its outcome as it is.
+-- the bytes that a host lends. A step hands over its outcome as it is, of the call that its arguments make.
 use Prim.Native.Nat.{ℕ, _≤_, _<_}
 use mathlib.Core.List.{List, _++_}
 use mathlib.Core.Path.{_≡_}
-use lib.ListN.{length}
-use Rattle.wire.specs.Numbers.{bytes32, bytes64}
+use lib.ListN.{length, take}
+use Rattle.wire.specs.Numbers.{be32, bytes32, bytes64}
 use Rattle.wire.specs.Parts.{splice}
 use Rattle.clock.specs.declared.Tick.{Tick}
+use Rattle.message.specs.Blocks.{standardCount}
+use Rattle.drops.specs.Arrival.{arrival}
 use Rattle.drops.specs.Drop.{dropRoom}
 use Rattle.engine.specs.Answer.{sentHome}
 use Rattle.servicebough.specs.Ticks.{tickSize}
 use Rattle.servicebough.specs.Answers.{answerSize}
-use Rattle.demands.specs.Walk.{Told}
+use Rattle.yard.specs.Walk.{Visit}
+use Rattle.demands.specs.Engine.{Call}
+use Rattle.demands.specs.Walk.{Told, Truth}
+
+-- the call that the arguments of a step make: message, destination, receiving interface, TTL, time, sheet, and what is lent
+abbrev pub stepCall : List ℕ → ℕ → ℕ → ℕ → ℕ → List ℕ → List ℕ → List ℕ → List ℕ → Call
+stepCall message destination receiving ttl time sheet recent output note =
+    record { arrival = arrival message destination receiving ttl; time = time; sheet = sheet; recent = recent; output = output; note = note }
 
 -- a tick: the number, and the lent bytes as they are left
 pub record HandsTick (k : Tick) (out : List ℕ) (number : ℕ) (left : List ℕ) : Type 0 where
@@ -33,3 +42,13 @@ pub record HandsWalk (t : Told) (output answer : List ℕ) (number : ℕ) (outpu
   pub stays : answerSize ≤ length answer → t .answer .end < sentHome → answer′ ≡ answer
   pub answers : answerSize ≤ length answer → sentHome ≤ t .answer .end
       → answer′ ≡ splice answer 0 (bytes32 (t .answer .end) ++ bytes32 (t .answer .steps) ++ bytes32 (t .answer .blocks) ++ bytes32 (t .answer .length))
+
+-- of a walk that is not refused and that its first router accepts: the 16 bytes say its end, its steps, its blocks and the length of its
+-- last message, which stands in the output; and all that demand 3 says of them is true
+pub record AnswerTells (yard times : List ℕ) (v : Visit) (visits : List Visit) (end : ℕ) (last output answer : List ℕ) : Type 0 where
+  pub says-end : be32 answer 0 ≡ end
+  pub says-steps : be32 answer 4 ≡ length visits
+  pub says-blocks : be32 answer 8 ≡ standardCount last
+  pub says-length : be32 answer 12 ≡ length last
+  pub sends : take (length last) output ≡ last
+  pub truth : Truth yard times v visits end last

@@ -14,19 +14,18 @@ use Rattle.recent.specs.Entries.{empty}
 use Rattle.response.specs.declared.Block.{Block}
 use Rattle.response.specs.Code.{codeNoSpace}
 use Rattle.response.specs.Bytes.{blockBytes}
-use Rattle.message.specs.Format.{most, codeOffset}
+use Rattle.message.specs.Format.{most, codeOffset, noteSize}
 use Rattle.message.specs.Header.{headerOf}
 use Rattle.message.specs.Blocks.{standardCount, standardBlocks}
 use Rattle.message.specs.Room.{Full, HasRoom}
 use Rattle.drops.specs.Arrival.{arrival}
 use Rattle.drops.specs.Drop.{nearTtl}
-use Rattle.message.specs.Format.{noteSize}
 use Rattle.engine.specs.Answer.{sentOn, sentHome}
 use Rattle.engine.specs.Step.{Outcome}
 use Rattle.yard.specs.declared.Walked.{Walked}
 use Rattle.yard.specs.Yard.{sheetAt}
 use Rattle.yard.specs.Walk.{toGroup, nobodyThere, Visit, visit, walkRows}
-use Rattle.yard.specs.Faithful.{LowestHolder, NobodyHolds}
+use Rattle.yard.specs.Holders.{LowestHolder, NobodyHolds}
 use Rattle.demands.specs.Engine.{Engine, Call, run, rows, BlockOf}
 
 -- what a walk answers, and the output as it is left

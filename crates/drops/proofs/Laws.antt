@@ -8,8 +8,7 @@ use native.Mathlib.Omega.{arith}
 use lib.Dec.{leb, ltb, eqb}
 use borrow.Author.Tests.{le-ltb, lt-leb, ne-eqb, ltb-true, ltb-false, leb-false, not-false}
 use Rattle.rows.specs.Rows.{Row, firstOf, NoneApplies, IsFirst}
-use Rattle.rows.proofs.Tests.{decided, neither-of}
-use Rattle.rows.proofs.Laws.{none-is, number-kept, some-first, zero-none, first-at-most, appliesAt, none-at, none-joined, none-split}
+use Rattle.rows.proofs.Laws.{decided, neither-of, none-is, number-kept, some-first, zero-none, first-at-most, appliesAt, none-at, none-joined, none-split}
 use Rattle.wire.specs.Addresses.{linkScoped}
 use Rattle.recent.specs.Layout.{wellFormed}
 use Rattle.recent.specs.Entries.{seenIn}
@@ -19,7 +18,8 @@ use Rattle.message.specs.Format.{most, noteSize}
 use Rattle.message.specs.Header.{headerOf}
 use Rattle.message.specs.Blocks.{standardCount}
 use Rattle.message.specs.Room.{isFull, hopsUsed}
-use Rattle.message.specs.Check.{headerRows, messageRows, blocksSeen}
+use Rattle.message.specs.Check.{headerRows, messageRows}
+use Rattle.message.specs.Inside.{blocksSeen}
 use Rattle.drops.specs.declared.Verdict.{Verdict}
 use Rattle.drops.specs.Inside.{dropVerdict, passVerdict, verdictOf}
 use Rattle.message.proofs.Laws.{Accepted, none-applies, applies-none, full-has-standard}

@@ -23,7 +23,8 @@ use Rattle.message.specs.declared.Blocks.{Blocks}
 use Rattle.message.specs.declared.Checked.{Checked}
 use Rattle.message.specs.Header.{headerOf}
 use Rattle.message.specs.Blocks.{standardCount}
-use Rattle.message.specs.Check.{headerRows, messageRows, acceptedMessage, checkOf, blocksSeen}
+use Rattle.message.specs.Check.{headerRows, messageRows}
+use Rattle.message.specs.Inside.{acceptedMessage, checkOf, blocksSeen}
 use Rattle.message.proofs.Laws.{check-number, check-accepts, accepts-as}
 use Rattle.drops.specs.declared.Verdict.{Verdict}
 use Rattle.drops.specs.Arrival.{arrival, isQuery, routeFor, lastHopFor}

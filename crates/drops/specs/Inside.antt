@@ -8,7 +8,7 @@ use Rattle.route.specs.declared.Chosen.the-variants.{Nothing}
 use Rattle.message.specs.declared.Header.{Header}
 use Rattle.message.specs.declared.Blocks.{Blocks}
 use Rattle.message.specs.Header.{headerOf}
-use Rattle.message.specs.Check.{noHeader, noBlocks, blocksSeen}
+use Rattle.message.specs.Inside.{noHeader, noBlocks, blocksSeen}
 use Rattle.drops.specs.declared.Verdict.{Verdict}
 use Rattle.drops.specs.Arrival.{Arrival, routeFor, lastHopFor}
 use Rattle.drops.specs.Drop.{deliveryRows, routeRows, table}

@@ -11,7 +11,7 @@ use borrow.Author.Tests.{lt-leb, leb-false, ne-eqb, eq-eqb, eqb-false}
 use lib.Dec.{leb, eqb, lit≤}
 use lib.ListN.{length}
 use Rattle.wire.specs.Addresses.{unicast, allOnes}
-use Rattle.rows.proofs.Tests.{decided, neither-of}
+use Rattle.rows.proofs.Laws.{decided, neither-of}
 use Rattle.recent.specs.Entries.{empty}
 use Rattle.recent.proofs.Laws.{empty-well-formed}
 use Rattle.entry.specs.Route.{isRp}

@@ -10,7 +10,7 @@ use borrow.Author.Tests.{ltb-true, ltb-false}
 use lib.ListN.{length, set, length-set, length-append}
 use lib.Seq.{getD-append-add, set-append-left}
 use Rattle.wire.specs.Numbers.{byteAt, be, bytes}
-use Rattle.rows.proofs.Tests.{cond-cases}
+use Rattle.rows.proofs.Laws.{cond-cases, none-is, first-is}
 use Rattle.sheet.specs.Tables.{interfaceOf}
 use Rattle.route.specs.declared.Chosen.the-variants.{Nothing}
 use Rattle.response.specs.declared.View.{View}
@@ -28,7 +28,6 @@ use Rattle.drops.specs.Arrival.{Arrival, routeFor}
 use Rattle.message.specs.Room.{isFull, Full, HasRoom, hopsUsed}
 use Rattle.drops.specs.Drop.{table}
 use Rattle.rows.specs.Rows.{NoneApplies, IsFirst}
-use Rattle.rows.proofs.Laws.{none-is, first-is}
 use Rattle.engine.specs.View.{viewWith, viewOf}
 use Rattle.engine.specs.Answer.{Sent, sentOn, sentHome, goesHome, goesOn, fullMessage, longerMessage, longerAnswer, sentBy}
 use Rattle.engine.specs.Step.{outcome, answeredBy, stepOf}

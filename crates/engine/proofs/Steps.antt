@@ -19,7 +19,7 @@ use Rattle.message.specs.declared.Header.{Header}
 use Rattle.message.specs.Format.{most, standardSize}
 use Rattle.message.specs.Header.{headerOf}
 use Rattle.message.specs.Blocks.{standardCount, lastStandard}
-use Rattle.message.specs.Check.{blocksSeen}
+use Rattle.message.specs.Inside.{blocksSeen}
 use Rattle.message.proofs.Laws.{full-has-standard, last-high, standards-fit}
 use Rattle.drops.specs.declared.Verdict.{Verdict}
 use Rattle.drops.specs.Arrival.{Arrival, arrival, routeFor}

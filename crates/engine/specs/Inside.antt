@@ -14,7 +14,7 @@ use Rattle.message.specs.declared.Header.{Header}
 use Rattle.message.specs.Format.{headerSize, most, standardSize, noteSize}
 use Rattle.message.specs.Header.{headerOf}
 use Rattle.message.specs.Blocks.{lastStandard}
-use Rattle.message.specs.Check.{blocksSeen}
+use Rattle.message.specs.Inside.{blocksSeen}
 use Rattle.drops.specs.declared.Verdict.{Verdict}
 use Rattle.message.specs.Room.{isFull, Full, HasRoom, hopsUsed}
 use Rattle.drops.specs.Inside.{passVerdict}

@@ -6,7 +6,7 @@ use mathlib.Core.Path.{_≡_}
 use lib.Dec.{ltb, eqb}
 use borrow.Author.Tests.{leb-true, ltb-true, eqb-true, eqb-false, not-true}
 use Rattle.wire.specs.Addresses.{unicast, allOnes}
-use Rattle.rows.proofs.Tests.{both-of, one-of, parts}
+use Rattle.rows.proofs.Laws.{both-of, one-of, parts}
 use Rattle.entry.specs.declared.interface.Interface.{Interface}
 use Rattle.entry.specs.declared.route.Route.{Route}
 use Rattle.entry.specs.Prefix.{addressBits}

@@ -10,15 +10,15 @@ use borrow.Author.Tests.{le-ltb, eq-eqb, ne-eqb, ltb-false, eqb-true, eqb-false,
 use lib.Dec.{ltb, eqb}
 use lib.ListN.{length}
 use Rattle.wire.specs.Addresses.{unicast}
-use Rattle.rows.proofs.Tests.{neither-of, both-of, one-of}
+use Rattle.rows.proofs.Laws.{neither-of, both-of, one-of, none-is, number-kept, zero-none, appliesAt, none-at}
 use Rattle.message.specs.declared.Header.{Header}
 use Rattle.message.specs.declared.Checked.{Checked}
 use Rattle.message.specs.Format.{headerSize, most, query, request, standardSize}
 use Rattle.message.specs.Header.{headerOf, queryOrRequest, rightLength, rightGroup, rightSource, namesNothing, rightClient}
 use Rattle.message.specs.Blocks.{Placed, blocksOf, standardPlaces, standards, standardCount, fillsMessage, standardFirst, requestForm, rightForm}
-use Rattle.message.specs.Check.{dropSize, dropType, dropHeader, dropHops, dropGroup, dropSource, dropPair, dropClient, dropBlocks, headerRows, messageRows, refusedMessage, acceptedMessage, checkOf}
+use Rattle.message.specs.Check.{dropSize, dropType, dropHeader, dropHops, dropGroup, dropSource, dropPair, dropClient, dropBlocks, headerRows, messageRows}
+use Rattle.message.specs.Inside.{refusedMessage, acceptedMessage, checkOf}
 use Rattle.rows.specs.Rows.{NoneApplies, firstOf}
-use Rattle.rows.proofs.Laws.{none-is, number-kept, zero-none, appliesAt, none-at}
 use Rattle.message.proofs.Turns.{standard-more}
 use Rattle.message.proofs.Append.{query-alone, request-formed}
 

@@ -17,7 +17,7 @@ use Rattle.message.specs.Format.{headerSize, query, standard, standardSi
 use Rattle.message.specs.Header.{headerOf}
 use Rattle.message.specs.Inside.{StandardBlock}
 use Rattle.message.specs.Blocks.{Placed, begins, rightSize, fitsIn, blocksFrom, blocksOf, totalSize, standardPlaces, standards, standardCount, blocksEnd, standardFirst, fillsMessage, requestForm, rightForm}
-use Rattle.rows.proofs.Tests.{decided, both-of}
+use Rattle.rows.proofs.Laws.{decided, both-of}
 use Rattle.message.proofs.Cut.{begun, too-short, no-blocks, block-first, by-blocks}
 use Rattle.message.proofs.Turns.{standard-more, standard-same}
 use Rattle.message.proofs.Fields.{same-header}

@@ -11,7 +11,7 @@ use lib.ListN.{length, getD, drop, set, length-map, length-drop}
 use lib.Seq.{take-all, take-append-le, drop-append-le, drop-append-seam, drop-set-lt, drop-set-add, take-set-le, take-set-lt}
 use Rattle.wire.specs.Numbers.{byteAt, be16}
 use Rattle.wire.specs.Parts.{part}
-use Rattle.rows.proofs.Tests.{decided}
+use Rattle.rows.proofs.Laws.{decided}
 use Rattle.message.specs.Format.{headerSize, standard, standardSize, codeOffset}
 use Rattle.message.specs.Inside.{standardAt, StandardBlock}
 use Rattle.message.specs.Blocks.{blocksFrom, blocksOf, standardPlaces, lastOr, standards, standardCount, lastStandard, standardBlocks, lastCoded}

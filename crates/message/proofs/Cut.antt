@@ -9,7 +9,7 @@ use borrow.Author.Tests.{leb-true, eqb-true}
 use lib.Dec.{leb, eqb}
 use lib.ListN.{length, drop, length-drop}
 use Rattle.wire.specs.Numbers.{byteAt, be16}
-use Rattle.rows.proofs.Tests.{decided, both-of, one-of}
+use Rattle.rows.proofs.Laws.{decided, both-of, one-of}
 use Rattle.message.specs.Format.{standard, augmented, standardSize, augmentedLeast}
 use Rattle.message.specs.Blocks.{Placed, placedAt, begins, rightSize, fitsIn, blocksBy, blocksFrom}
 

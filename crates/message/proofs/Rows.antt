@@ -16,10 +16,10 @@ use Rattle.message.specs.declared.Checked.{Checked}
 use Rattle.message.specs.Format.{headerSize, most, query, standard}
 use Rattle.message.specs.Header.{headerOf}
 use Rattle.message.specs.Blocks.{begins, blocksOf, totalSize, blocksEnd, standardFirst, fillsMessage, rightForm}
-use Rattle.message.specs.Check.{dropSize, dropBlocks, headerRows, messageRows, blocksSeen, refusedMessage, acceptedMessage, checkOf}
+use Rattle.message.specs.Check.{dropSize, dropBlocks, headerRows, messageRows}
+use Rattle.message.specs.Inside.{blocksSeen, refusedMessage, acceptedMessage, checkOf}
 use Rattle.rows.specs.Rows.{Row, row, byFirst, firstOf}
-use Rattle.rows.proofs.Laws.{given-by, none-by}
-use Rattle.rows.proofs.Tests.{decided}
+use Rattle.rows.proofs.Laws.{given-by, none-by, decided}
 use Rattle.message.proofs.Cut.{too-short, no-blocks, block-first}
 
 -- a header alone has no block

@@ -12,7 +12,7 @@ use Rattle.wire.specs.Numbers.{byteAt, be16}
 use Rattle.message.specs.Format.{headerSize, standard, standardSize}
 use Rattle.message.specs.Inside.{standardAt}
 use Rattle.message.specs.Blocks.{Placed, placedAt, begins, blocksFrom, blocksOf, totalSize, standardPlaces, lastOr, standards, standardCount, lastStandard}
-use Rattle.rows.proofs.Tests.{decided}
+use Rattle.rows.proofs.Laws.{decided}
 use Rattle.message.proofs.Cut.{begun, no-blocks, block-first, by-blocks}
 use Rattle.message.proofs.Turns.{standard-more, standard-same}
 

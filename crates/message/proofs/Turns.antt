@@ -12,12 +12,12 @@ use lib.Dec.{eqb}
 use lib.ListN.{length, drop, length-drop}
 use lib.Seq.{getD-drop, drop-drop}
 use Rattle.wire.specs.Numbers.{byteAt, be16}
-use Rattle.rows.proofs.Tests.{cond-cases, decided, both-of}
+use Rattle.rows.proofs.Laws.{cond-cases, decided, both-of}
 use Rattle.wire.proofs.Laws.{be-drop}
 use Rattle.message.specs.declared.Blocks.{Blocks}
 use Rattle.message.specs.Format.{headerSize, standard, augmentedLeast}
 use Rattle.message.specs.Blocks.{Placed, placedAt, begins, rightSize, fitsIn, blocksFrom, blocksOf, totalSize, standardPlaces, lastOr, standards, blocksEnd}
-use Rattle.message.specs.Check.{blocksSeen}
+use Rattle.message.specs.Inside.{blocksSeen}
 use Rattle.message.proofs.Cut.{size-right, too-short, no-blocks, block-first}
 
 -- what was found up to a place, joined with the blocks from there on

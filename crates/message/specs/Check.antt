@@ -1,16 +1,14 @@
--- The drop table's rows on a message by itself, 5 SIZE to 13 BLOCKS (document 01, "Drop numbers"), and what the check answers.
+-- The drop table's rows on a message by itself, 5 SIZE to 13 BLOCKS (document 01, "Drop numbers").
 use Prim.Native.Nat.{ℕ}
 use mathlib.Core.Bool.{Bool, not, _||_}
 use mathlib.Core.List.{List, [], _∷_, _++_}
 use lib.Dec.{ltb, eqb}
 use lib.ListN.{length}
-use Rattle.rows.specs.Rows.{Row, row, byFirst}
+use Rattle.rows.specs.Rows.{Row, row}
 use Rattle.message.specs.declared.Header.{Header}
-use Rattle.message.specs.declared.Blocks.{Blocks}
-use Rattle.message.specs.declared.Checked.{Checked}
 use Rattle.message.specs.Format.{headerSize, most}
 use Rattle.message.specs.Header.{headerOf, queryOrRequest, rightLength, rightGroup, rightSource, namesNothing, rightClient}
-use Rattle.message.specs.Blocks.{blocksEnd, standardCount, lastStandard, rightForm}
+use Rattle.message.specs.Blocks.{rightForm}
 
 -- the numbers, by their names in the table
 abbrev pub dropSize : ℕ
@@ -59,27 +57,3 @@ headerRows h =
 -- the rows on a message, in the table's order
 unfoldable pub messageRows : List ℕ → List Row
 messageRows s = row dropSize (wrongSize (length s)) ∷ (headerRows (headerOf s) ++ (row dropBlocks (not (rightForm s)) ∷ []))
-
--- where the blocks of a message end, how many are of type 4, and the last of those
-unfoldable pub blocksSeen : List ℕ → Blocks
-blocksSeen s = record { end = blocksEnd s; count = standardCount s; last = lastStandard s }
-
--- a header of zeros
-abbrev pub noHeader : Header
-noHeader = record { kind = 0; length = 0; hops = 0; group = 0; source = 0; client = 0; id = 0; port = 0 }
-
--- blocks of which nothing was seen
-abbrev pub noBlocks : Blocks
-noBlocks = record { end = 0; count = 0; last = 0 }
-
--- a refused message has its number, and zeros for all else
-unfoldable pub refusedMessage : ℕ → Checked
-refusedMessage number = record { number = number; header = noHeader; blocks = noBlocks }
-
--- an accepted one has number 0, its header, and what was seen of its blocks
-unfoldable pub acceptedMessage : List ℕ → Checked
-acceptedMessage s = record { number = 0; header = headerOf s; blocks = blocksSeen s }
-
--- what the check answers
-unfoldable pub checkOf : List ℕ → Checked
-checkOf s = byFirst refusedMessage (acceptedMessage s) (messageRows s)

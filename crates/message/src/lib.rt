@@ -7,7 +7,8 @@ ghost use Rattle.message.specs.Format.{headerSize};
 ghost use Rattle.message.specs.Header.{headerOf};
 ghost use Rattle.message.specs.Blocks.{fitsIn, rightForm, blocksEnd};
 ghost use Rattle.rows.specs.Rows.{firstOf};
-ghost use Rattle.message.specs.Check.{headerRows, blocksSeen, refusedMessage, checkOf};
+ghost use Rattle.message.specs.Check.{headerRows};
+ghost use Rattle.message.specs.Inside.{blocksSeen, refusedMessage, checkOf};
 
 pub const HEADER_SIZE: usize = 20;
 

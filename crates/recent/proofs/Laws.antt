@@ -13,7 +13,7 @@ use lib.ListN.{length, drop, length-append, drop-of-length-le}
 use lib.Seq.{drop-drop}
 use Rattle.wire.specs.Numbers.{byteAt, be, bytes32, bytes16}
 use Rattle.wire.specs.Parts.{splice, allZero}
-use Rattle.rows.proofs.Tests.{both-of, one-of, parts}
+use Rattle.rows.proofs.Laws.{both-of, one-of, parts}
 use Rattle.wire.proofs.Laws.{length-bytes, length-splice, byte-before, byte-after, be-after, be-within, be-first, be-second, be-bytes, drop-splice, splice-front}
 use Rattle.recent.specs.Layout.{headSize, clientSize, entrySize, entryCount, listSize, used, next, recentPlace, wellFormed}
 use Rattle.recent.specs.Inside.{Formed}

@@ -4,7 +4,7 @@ use mathlib.Core.Bool.{Bool, true, false, _||_}
 use mathlib.Core.Path.{_≡_, refl, sym, ap, subst, _∙_}
 use native.Mathlib.Omega.{arith}
 use lib.Dec.{eqb}
-use Rattle.rows.proofs.Tests.{cond-cases}
+use Rattle.rows.proofs.Laws.{cond-cases}
 use Rattle.entry.specs.Prefix.{addressBits}
 use Rattle.entry.specs.Route.{isRp, groupOnly}
 use Rattle.entry.specs.declared.route.Route.{Route}

@@ -5,7 +5,7 @@ use mathlib.Core.Path.{_≡_, refl, sym, _∙_}
 use native.Mathlib.Omega.{arith}
 use lib.Dec.{eqb}
 use borrow.Author.Tests.{eqb-false}
-use Rattle.rows.proofs.Tests.{cond-cases}
+use Rattle.rows.proofs.Laws.{cond-cases}
 use Rattle.entry.specs.declared.route.Route.{Route}
 use Rattle.entry.proofs.Laws.{RouteKept, route-kept}
 use Rattle.sheet.specs.Sheet.{layoutOf}

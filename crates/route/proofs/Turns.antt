@@ -8,7 +8,7 @@ use native.Mathlib.Nat.{zero-add}
 use native.Mathlib.Numerals.{add-one}
 use lib.Dec.{eqb}
 use borrow.Author.Tests.{eq-eqb, ne-eqb, eqb-true}
-use Rattle.rows.proofs.Tests.{parts}
+use Rattle.rows.proofs.Laws.{parts}
 use Rattle.entry.specs.Route.{groupOnly, isRp}
 use Rattle.entry.specs.Prefix.{addressBits}
 use Rattle.entry.specs.Interface.{mostInterfaces}

@@ -9,7 +9,8 @@ use native.Mathlib.Omega.{arith}
 use borrow.Author.Tests.{leb-true}
 use lib.Dec.{leb, eqb}
 use Rattle.rows.specs.Rows.{Row, byFirst, firstOf, NoneApplies, IsFirst, Noted}
-use Rattle.rows.proofs.Tests.{both-of}
+-- tests joined, and `first`, by which `search` follows a chain of them
+pub use Rattle.rows.proofs.Tests.{decided, same-flag, both-true, both-of, one-of, neither-of, parts, first, cond-cases}
 
 -- a row in front of others
 decided-by : (r : Row) (rs : List Row) (t : Bool) → r .applies ≡ t → IsFirst rs (firstOf rs) ⊎ NoneApplies rs

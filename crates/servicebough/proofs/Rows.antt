@@ -6,7 +6,7 @@ use native.Mathlib.Omega.{arith}
 use lib.ListN.{length}
 use borrow.Author.Tests.{lt-ltb, le-ltb}
 use Rattle.rows.specs.Rows.{byFirst}
-use Rattle.rows.proofs.Tests.{first}
+use Rattle.rows.proofs.Laws.{first}
 use Rattle.wire.specs.Numbers.{bytes32, bytes64}
 use Rattle.wire.specs.Parts.{splice}
 use Rattle.clock.specs.declared.Tick.{Tick}

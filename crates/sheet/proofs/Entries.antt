@@ -6,7 +6,7 @@ use mathlib.Core.List.{List}
 use mathlib.Core.Path.{_≡_, refl, sym}
 use native.Mathlib.Omega.{arith}
 use lib.ListN.{length}
-use Rattle.rows.proofs.Tests.{cond-cases}
+use Rattle.rows.proofs.Laws.{cond-cases}
 use Rattle.block.specs.Block.{blockSize, placeInBlock, entriesEach}
 use Rattle.entry.specs.Interface.{interfaceSize, mostInterfaces, interfaceOk}
 use Rattle.entry.specs.Route.{routeSize, routeOk}

@@ -7,7 +7,7 @@ use native.Mathlib.Omega.{arith}
 use native.Mathlib.Nat.{eq-or-lt-of-le}
 use lib.Dec.{eqb}
 use borrow.Author.Tests.{eqb-true, eqb-false}
-use Rattle.rows.proofs.Tests.{cond-cases}
+use Rattle.rows.proofs.Laws.{cond-cases}
 use Rattle.entry.specs.declared.interface.Interface.{Interface}
 use Rattle.sheet.specs.Every.{listed}
 use Rattle.sheet.specs.Sheet.{layoutOf}

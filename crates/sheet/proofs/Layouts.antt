@@ -11,7 +11,7 @@ use borrow.Author.Tests.{lt-ltb, le-ltb, lt-leb, le-leb, leb-true, eqb-true, not
 use Rattle.block.specs.Block.{blockSize}
 use Rattle.entry.specs.Interface.{interfaceSize, mostInterfaces}
 use Rattle.entry.specs.Route.{routeSize}
-use Rattle.rows.proofs.Tests.{both-of}
+use Rattle.rows.proofs.Laws.{both-of}
 use Rattle.sheet.specs.Every.{every}
 use Rattle.sheet.specs.Rules.{interfaceKind, routeKind, interfaceRight, routeRight, blockOk}
 use Rattle.sheet.specs.Sheet.{mostBlocks, sheetSizeOk, blocks, interfaceBlocks, interfacesIn, blockOkAt, validSheet, noLayout, counted, layoutOf}

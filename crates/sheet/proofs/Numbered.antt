@@ -6,7 +6,7 @@ use mathlib.Core.Logic.{⊎-elim}
 use native.Mathlib.Omega.{arith}
 use native.Mathlib.Numerals.{add-one}
 use native.Mathlib.Nat.{eq-or-lt-of-le}
-use Rattle.rows.proofs.Tests.{both-of}
+use Rattle.rows.proofs.Laws.{both-of}
 use Rattle.sheet.specs.Every.{every}
 
 -- one more

@@ -7,7 +7,7 @@ use native.Mathlib.Omega.{arith}
 use lib.Dec.{leb, eqb}
 use lib.ListN.{length}
 use borrow.Author.Tests.{lt-ltb, le-ltb, leb-true}
-use Rattle.rows.proofs.Tests.{cond-cases, both-of}
+use Rattle.rows.proofs.Laws.{cond-cases, both-of}
 use Rattle.block.specs.Block.{blockSize, kindOf, usedIn, switchesOf, frameOk}
 use Rattle.entry.specs.Interface.{interfaceSize, mostInterfaces}
 use Rattle.entry.specs.Route.{routeSize}

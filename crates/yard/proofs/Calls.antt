@@ -1,5 +1,5 @@
 -- Laws of a call of the engine, by its promise alone: what it answers and sends, and what is read from its record.
-use Prim.Native.Nat.{ℕ, _+_, _/_, _≤_, _<_}
+use Prim.Native.Nat.{ℕ, _+_, _≤_, _<_}
 use mathlib.Core.Bool.{true, not, _&&_}
 use mathlib.Core.List.{List}
 use mathlib.Core.Logic.{_⊎_, inl, inr, ⊎-elim}
@@ -11,7 +11,7 @@ use lib.ListN.{length, replicate}
 use Rattle.wire.specs.Numbers.{be, be16, be32, bytes}
 use Rattle.wire.specs.Parts.{splice}
 use Rattle.wire.specs.Addresses.{firstOctet, unicast}
-use Rattle.rows.proofs.Tests.{both-of}
+use Rattle.rows.proofs.Laws.{both-of, first-or-none, none-is, first-is}
 use Rattle.wire.proofs.Laws.{be-within}
 use Rattle.recent.specs.Entries.{empty}
 use Rattle.response.specs.declared.Note.{Note}
@@ -22,7 +22,6 @@ use Rattle.message.specs.Format.{most, noteSize}
 use Rattle.message.specs.Header.{headerOf}
 use Rattle.drops.specs.Arrival.{Arrival}
 use Rattle.rows.specs.Rows.{firstOf, NoneApplies, IsFirst}
-use Rattle.rows.proofs.Laws.{first-or-none, none-is, first-is}
 use Rattle.engine.specs.Answer.{sentBy}
 use Rattle.engine.specs.Step.{Outcome, outcome, answeredBy, stepOf}
 use Rattle.drops.proofs.Laws.{taken}

@@ -8,7 +8,7 @@ use native.Mathlib.Omega.{arith}
 use native.Mathlib.Nat.{eq-or-lt-of-le}
 use borrow.Author.Tests.{ltb-true, ltb-false}
 use lib.Dec.{ltb}
-use Rattle.rows.proofs.Tests.{decided}
+use Rattle.rows.proofs.Laws.{decided}
 use Rattle.entry.specs.Interface.{mostInterfaces}
 use Rattle.sheet.specs.Tables.{holderOf}
 use Rattle.sheet.specs.declared.tables.Holding.{Holding}
@@ -17,7 +17,8 @@ use Rattle.sheet.proofs.Laws.{interfaces-few, holder-there, holder-holds, holde
 use Rattle.yard.specs.declared.Holder.{Holder}
 use Rattle.yard.specs.declared.Holder.the-variants.{Held, Nobody}
 use Rattle.yard.specs.Yard.{routersIn, sheetAt, heldBy, lowestFrom, holderIn}
-use Rattle.yard.specs.Faithful.{LowestHolder, NobodyHolds, HolderIs}
+use Rattle.yard.specs.Holders.{LowestHolder, NobodyHolds}
+use Rattle.yard.specs.Faithful.{HolderIs}
 
 -- what is not lower is at least as high
 at-least : (i j : ℕ) → (i < j → ⊥) → j ≤ i

@@ -13,7 +13,7 @@ use Rattle.wire.specs.Addresses.{multicast}
 use Rattle.wire.proofs.Laws.{splice-front}
 use Rattle.message.specs.declared.Blocks.{Blocks}
 use Rattle.message.specs.Blocks.{blocksFrom, blocksBy, blocksOf, standardPlaces, standards, standardCount}
-use Rattle.message.specs.Check.{blocksSeen}
+use Rattle.message.specs.Inside.{blocksSeen}
 use Rattle.message.specs.Format.{headerSize, most, request}
 use Rattle.message.specs.Room.{hopsLeft}
 use Rattle.message.proofs.Laws.{standards-fit}

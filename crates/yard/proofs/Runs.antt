@@ -6,7 +6,7 @@ use mathlib.Core.Path.{_≡_, refl, ap}
 use native.Mathlib.Omega.{arith}
 use borrow.Author.Tests.{eqb-true, eqb-false}
 use lib.Dec.{eqb}
-use Rattle.rows.proofs.Tests.{decided}
+use Rattle.rows.proofs.Laws.{decided}
 use Rattle.message.specs.Room.{hopsLeft}
 use Rattle.engine.specs.Answer.{sentOn}
 use Rattle.yard.specs.Walk.{Visit, sentAt, endOf, nextOf, walkFrom}

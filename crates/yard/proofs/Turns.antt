@@ -10,7 +10,7 @@ use borrow.Author.Tests.{eq-eqb, ne-eqb, eqb-true, eqb-false}
 use lib.Dec.{eqb}
 use lib.ListN.{length, getD}
 use Rattle.wire.specs.Addresses.{multicast}
-use Rattle.rows.proofs.Tests.{decided}
+use Rattle.rows.proofs.Laws.{decided, first-or-none}
 use Rattle.recent.specs.Entries.{empty}
 use Rattle.response.specs.declared.Block.{Block}
 use Rattle.message.specs.Format.{most, request, reply, noteSize}
@@ -18,14 +18,14 @@ use Rattle.message.specs.Room.{Full, HasRoom, hopsLeft}
 use Rattle.drops.specs.Arrival.{arrival}
 use Rattle.drops.specs.Drop.{nearTtl}
 use Rattle.rows.specs.Rows.{firstOf}
-use Rattle.rows.proofs.Laws.{first-or-none}
 use Rattle.engine.specs.Answer.{Sent, sentOn, sentHome, fullMessage, longerMessage, sentBy}
 use Rattle.drops.proofs.Laws.{Taken, taken, drop-numbers}
 use Rattle.engine.proofs.Laws.{sent-cases, sent-answer, sent-fits, Grown, sent-on-grows, no-later-drop}
 use Rattle.yard.specs.declared.Holder.{Holder}
 use Rattle.yard.specs.declared.Holder.the-variants.{Held, Nobody}
 use Rattle.yard.specs.Yard.{sheetAt, holderIn}
-use Rattle.yard.specs.Faithful.{Accepts, blockFor, EndsWell, LowestHolder, NobodyHolds}
+use Rattle.yard.specs.Holders.{LowestHolder, NobodyHolds}
+use Rattle.yard.specs.Faithful.{Accepts, blockFor, EndsWell}
 use Rattle.yard.specs.Walk.{toGroup, nobodyThere, Visit, visit, rowsFor, sentAt, endBy, endOf, nextOf, endsAt, enters, walkBy, walkFrom, nextBy}
 use Rattle.yard.proofs.Holders.{holder-found, holder-unique}
 use Rattle.yard.proofs.Calls.{sent-dropped, sent-taken}

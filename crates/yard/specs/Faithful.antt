@@ -1,14 +1,13 @@
--- Who holds an address without a search, what a walk is without steps counted beforehand, and what is true of every walk that is
--- not refused and that its first router accepts (document 01, the demand on traces), whatever the yard's addresses do. What messages
--- carry is told of by their lists of type 4 blocks, never by places or lengths.
+-- Inside: what only laws cite. No promise rests on it, and a reader of the definitions may pass it over.
+-- Here: what a walk is without steps counted beforehand, and what is true of every walk that is not refused and that its first router
+-- accepts, whatever the yard's addresses do. What messages carry is told of by their lists of type 4 blocks, never by places or
+-- lengths.
 use Prim.Native.Nat.{ℕ, suc, _+_, _-_, _/_, _≤_, _<_}
 use mathlib.Core.List.{List, [], _∷_, map}
 use mathlib.Core.Logic.{_⊎_}
 use mathlib.Core.Path.{_≡_}
 use lib.ListN.{length, take, getD}
 use Rattle.rows.specs.Rows.{NoneApplies}
-use Rattle.sheet.specs.Sheet.{layoutOf}
-use Rattle.sheet.specs.Tables.{interfaceOf}
 use Rattle.response.specs.declared.Block.{Block}
 use Rattle.response.specs.Fill.{blockOf}
 use Rattle.response.specs.Bytes.{blockBytes}
@@ -21,24 +20,9 @@ use Rattle.engine.specs.Answer.{sentOn, sentHome}
 use Rattle.response.specs.Code.{codeNoSpace}
 use Rattle.yard.specs.declared.Holder.{Holder}
 use Rattle.yard.specs.declared.Holder.the-variants.{Held, Nobody}
-use Rattle.yard.specs.Yard.{routersIn, sheetAt}
+use Rattle.yard.specs.Holders.{LowestHolder, NobodyHolds}
+use Rattle.yard.specs.Yard.{sheetAt}
 use Rattle.yard.specs.Walk.{toGroup, nobodyThere, Visit, sentAt, endOf, nextOf, rowsFor, Walk, walkRows}
-
--- none of a router's interfaces holds an address
-abbrev pub HoldsNone : List ℕ → ℕ → Type 0
-HoldsNone sheet address = (k : ℕ) → k < layoutOf sheet .interfaces → interfaceOf sheet k .address ≡ address → ⊥
-
--- an interface of a router holds it, and neither a lower interface there nor any interface of a lower router does
-pub record LowestHolder (yard : List ℕ) (address router interface : ℕ) : Type 0 where
-  pub there : router < routersIn yard
-  pub here : interface < layoutOf (sheetAt yard router) .interfaces
-  pub holds : interfaceOf (sheetAt yard router) interface .address ≡ address
-  pub lowest-here : (k : ℕ) → k < interface → interfaceOf (sheetAt yard router) k .address ≡ address → ⊥
-  pub lowest : (i : ℕ) → i < router → HoldsNone (sheetAt yard i) address
-
--- nobody holds it
-abbrev pub NobodyHolds : List ℕ → ℕ → Type 0
-NobodyHolds yard address = (i : ℕ) → i < routersIn yard → HoldsNone (sheetAt yard i) address
 
 -- what it means that somebody, or nobody, is the lowest router and interface holding an address
 abbrev pub HolderIs : List ℕ → ℕ → Holder → Type 0

@@ -1,7 +1,7 @@
 -- `unix`: each way out is the one that its row picks in the definition.
 use mathlib.Core.Logic.{⊎-elim}
 use Rattle.rows.specs.Rows.{byFirst}
-use Rattle.rows.proofs.Tests.{first}
+use Rattle.rows.proofs.Laws.{first}
 use borrow.Author.Needs.{needs}
 use Rattle.clock.specs.Unix.{unixOf}
 use Rattle.clock.proofs.unix.Statement.{statement}

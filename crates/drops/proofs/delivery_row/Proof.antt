@@ -1,6 +1,6 @@
 -- `delivery_row`: each way out is the first row that applies.
 use Rattle.rows.specs.Rows.{byFirst}
-use Rattle.rows.proofs.Tests.{first}
+use Rattle.rows.proofs.Laws.{first}
 use Rattle.drops.specs.Drop.{deliveryRows}
 use Rattle.drops.proofs.Rows.{interfaces-told}
 use borrow.Author.Needs.{needs}

@@ -1,6 +1,6 @@
 -- `lending_row`: each way out is the first row that applies.
 use Rattle.rows.specs.Rows.{byFirst}
-use Rattle.rows.proofs.Tests.{first}
+use Rattle.rows.proofs.Laws.{first}
 use Rattle.drops.specs.Drop.{lendingRows}
 use borrow.Author.Needs.{needs}
 use Rattle.drops.proofs.lending_row.Statement.{statement}

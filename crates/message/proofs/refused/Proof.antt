@@ -1,6 +1,6 @@
 -- `refused`: zeros but for the number.
 use mathlib.Core.Path.{refl}
-use Rattle.message.specs.Check.{refusedMessage}
+use Rattle.message.specs.Inside.{refusedMessage}
 use Rattle.message.proofs.refused.Statement.{statement}
 use Rattle.message.proofs.refused.Tie as tie
 

@@ -1,6 +1,6 @@
 -- `late_code`: each way out is the first row that applies.
 use Rattle.rows.specs.Rows.{byFirst}
-use Rattle.rows.proofs.Tests.{first}
+use Rattle.rows.proofs.Laws.{first}
 use borrow.Author.Needs.{needs}
 use Rattle.response.proofs.late_code.Statement.{statement}
 use Rattle.response.proofs.late_code.Tie as tie

@@ -1,5 +1,5 @@
 -- `upstream`: each way out is the one that its test picks.
-use Rattle.rows.proofs.Tests.{first}
+use Rattle.rows.proofs.Laws.{first}
 use borrow.Author.Needs.{needs}
 use Rattle.response.proofs.upstream.Statement.{statement}
 use Rattle.response.proofs.upstream.Tie as tie

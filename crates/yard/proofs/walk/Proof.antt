@@ -2,7 +2,7 @@
 use borrow.Author.Needs.{needs}
 use native.Mathlib.Omega.{arith}
 use Rattle.rows.specs.Rows.{byFirst}
-use Rattle.rows.proofs.Tests.{first}
+use Rattle.rows.proofs.Laws.{first}
 use Rattle.yard.specs.Walk.{walkRows, walkOf}
 use Rattle.yard.proofs.Refusals.{refused-by, walk-ready, walk-told}
 use Rattle.yard.proofs.walk.Statement.{statement}

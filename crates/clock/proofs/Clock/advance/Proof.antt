@@ -1,7 +1,7 @@
 -- `advance`: each way out is the one that the first row that applies picks in the definition.
 use mathlib.Core.Logic.{⊎-elim}
 use Rattle.rows.specs.Rows.{byFirst}
-use Rattle.rows.proofs.Tests.{first}
+use Rattle.rows.proofs.Laws.{first}
 use borrow.Author.Needs.{needs}
 use Rattle.clock.specs.Clock.{advanceOf}
 use Rattle.clock.proofs.Clock.advance.Statement.{statement}

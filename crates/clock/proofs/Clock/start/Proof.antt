@@ -1,6 +1,6 @@
 -- `start`: each way out is the one that its row picks in the definition.
 use Rattle.rows.specs.Rows.{byFirst}
-use Rattle.rows.proofs.Tests.{first}
+use Rattle.rows.proofs.Laws.{first}
 use Rattle.clock.specs.Clock.{startOf}
 use Rattle.clock.proofs.Clock.start.Statement.{statement}
 use Rattle.clock.proofs.Clock.start.Tie as tie

@@ -1,5 +1,5 @@
 -- `time_for`: a reading that falls, and one that does not, as the test picks in the definition.
-use Rattle.rows.proofs.Tests.{first}
+use Rattle.rows.proofs.Laws.{first}
 use borrow.Author.Needs.{needs}
 use Rattle.clock.specs.Clock.{timeFor}
 use Rattle.clock.proofs.Clock.time_for.Statement.{statement}
