@@ -15,7 +15,7 @@ pub const ENTRIES_AT: usize = 4;
 pub const SWITCHES_AT: usize = 508;
 
 // The bytes between, in which the entries stand.
-const ENTRIES_ROOM: usize = SWITCHES_AT - ENTRIES_AT;
+pub const ENTRIES_ROOM: usize = SWITCHES_AT - ENTRIES_AT;
 
 // Bytes of a word.
 const WORD_SIZE: usize = 4;

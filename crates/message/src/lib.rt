@@ -12,7 +12,8 @@ ghost use Rattle.message.specs.Inside.{blocksSeen, refusedMessage, check
 
 pub const HEADER_SIZE: usize = 20;
 
-const HEADER_LENGTH: u16 = 20;
+// The same, as the header says it of itself.
+const HEADER_LENGTH: u16 = HEADER_SIZE as u16;
 
 pub const MOST: usize = 1472;
 

@@ -7,8 +7,7 @@ ghost use Rattle.recent.specs.Layout.{recentPlace, entrySize, entryCount
 ghost use Rattle.recent.specs.Entries.{recentEntry, isOf, seenIn, grown, movedOn, enteredIn};
 ghost use Rattle.recent.specs.Inside.{Formed};
 
-pub const LIST_SIZE: usize = 196;
-
+// Bytes of the head, of an entry and of the client in it; the most entries; bytes of the list.
 const HEAD_SIZE: usize = 4;
 
 const ENTRY_SIZE: usize = 6;
@@ -16,6 +15,8 @@ const ENTRY_SIZE: usize = 6;
 const CLIENT_SIZE: usize = 4;
 
 const ENTRY_COUNT: u8 = 32;
+
+pub const LIST_SIZE: usize = HEAD_SIZE + ENTRY_SIZE * ENTRY_COUNT as usize;
 
 // Where entry k begins.
 fn recent_place(k: u8) -> usize

@@ -17,10 +17,10 @@ ghost use Rattle.sheet.specs.Sheet.{mostBlocks, sheetSizeOk, blocks, she
 const MOST_BLOCKS: usize = 16;
 
 // How many interfaces an interface block has room for.
-pub const INTERFACES_EACH: usize = 21;
+pub const INTERFACES_EACH: usize = block::ENTRIES_ROOM / entry::INTERFACE_SIZE;
 
 // How many routes a route block has room for.
-pub const ROUTES_EACH: usize = 9;
+pub const ROUTES_EACH: usize = block::ENTRIES_ROOM / entry::ROUTE_SIZE;
 
 // What the check tells of a sheet: whether it is valid, and how many interface blocks, interfaces and routes it has.
 pub struct Layout {
