@@ -28,7 +28,7 @@ use Rattle.drops.specs.Drop.{dropRoom, dropState, dropSheet, dropIface, 
 
 module _ (a : Arrival) (sheet recent : List ℕ) (output note : ℕ) where
   -- every number of the table is one of 1 to 19
-  pub zero-passes : dropOf a sheet recent output note ≡ 0 → NoneApplies (table a sheet recent output note)
+  zero-passes : dropOf a sheet recent output note ≡ 0 → NoneApplies (table a sheet recent output note)
   unfolding table lendingRows messageRows headerRows deliveryRows routeRows
   zero-passes = zero-none (table a sheet recent output note) refl
 
