@@ -4,6 +4,7 @@ use mathlib.Core.Bool.{Bool, not, false}
 use mathlib.Core.List.{List}
 use mathlib.Core.Path.{_≡_, refl, sym, _∙_}
 use borrow.Author.Tests.{not-false}
+use native.Mathlib.Omega.{arith}
 use lib.ListN.{length}
 use Rattle.wire.specs.Parts.{splice}
 use Rattle.yard.specs.declared.Walked.{Walked}
