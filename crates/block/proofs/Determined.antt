@@ -1,12 +1,7 @@
--- Two answers that meet a function's promise are equal.
-use Prim.Native.Nat.{ℕ}
-use mathlib.Core.Bool.{Bool}
-use mathlib.Core.List.{List}
+-- Two answers that meet a function's promise are equal: what it ensures is an equation.
 use mathlib.Core.Path.{_≡_}
-use Rattle.wire.proofs.Determined.{both-are}
-use Rattle.block.specs.Block.{frameOk}
+use Rattle.wire.proofs.Laws.{both-are}
+use Rattle.block.proofs.frame_ok.Reads as frame-ok
 
-pub frame-ok-determined : (kind size number : ℕ) (partly : Bool) (b : List ℕ) (x y : Bool) → x ≡ frameOk kind size number partly b
-    → y ≡ frameOk kind size number partly b
-    → x ≡ y
-frame-ok-determined kind size number partly b x y = both-are
+pub frame-ok-determined : (κs : _) (a : _) (x y : _) (e f : _) → frame-ok.Post κs a x e → frame-ok.Post κs a y f → x ≡ y
+frame-ok-determined κs a x y e f p q = both-are p q

@@ -1,5 +1,6 @@
--- Laws that this crate's proofs and the crates above cite.
-pub mod Sums
-pub mod Unused
-pub mod Frames
+-- Laws that the crates above cite; and `Determined`: each promise leaves one answer.
+mod Sums
+mod Unused
+mod Frames
+pub mod Laws
 pub mod Determined

@@ -1,4 +1,4 @@
--- The plain sum of the 32-bit words, joined to the sum of RFC 1071: end-around carry takes multiples of 65535 away.
+-- The plain sum of the 32-bit words, joined to the sum of RFC 1071: end-around carry takes multiples of 0xFFFF away.
 use Prim.Native.Nat.{ℕ, zero, suc, _+_, _*_, _/_, _%_, _≤_, _<_}
 use mathlib.Core.Bool.{_&&_}
 use mathlib.Core.Path.{_≡_, refl, ap, _∙_}
@@ -10,12 +10,13 @@ use lib.ListN.{length, drop, drop-of-length-le}
 use lib.Seq.{drop-cons}
 use borrow.Author.Tests.{eqb-true, eq-eqb, ltb-true, lt-ltb}
 use Rattle.wire.specs.Numbers.{byteAt, be, be32}
-use Rattle.block.specs.Sum.{carried, sumFrom, sumOk}
-use Rattle.block.specs.Words.{words}
-use Rattle.rows.proofs.Tests.{same-flag, both-true, both-of}
+use Rattle.block.specs.Sum.{rightSum, carried, sumFrom, sumOk}
+use Rattle.block.specs.Block.{blockSize}
+use Rattle.block.specs.Inside.{wordSize, blockWords, words}
+use Rattle.rows.proofs.Laws.{same-flag, both-true, both-of}
 
 -- the loop: one word more, and all of them
-pub words-more : (b : List ℕ) (sum from i x : ℕ) → sum + words b from ≡ words b i → x ≡ be32 b (4 * i) → sum + x + words b from ≡ words b (i + 1)
+pub words-more : (b : List ℕ) (sum from i x : ℕ) → sum + words b from ≡ words b i → x ≡ be32 b (wordSize * i) → sum + x + words b from ≡ words b (i + 1)
 unfolding words
 words-more b sum from i x e f = rw (add-one, ← e, f) (omega arith)
 
@@ -23,8 +24,8 @@ pub words-all : (b : List ℕ) (sum from i to : ℕ) → sum + words b from ≡ 
 words-all b sum from i to e h k = let q : i ≡ to = omega arith in e ∙ ap (words b) q
 
 -- four bytes at the front of what is left, and the word that they are
-pub four : (b : List ℕ) (at : ℕ) → at + 4 ≤ length b
-    → drop at b ≡ byteAt b at ∷ byteAt b (at + 1) ∷ byteAt b (at + 2) ∷ byteAt b (at + 2 + 1) ∷ drop (at + 4) b
+pub four : (b : List ℕ) (at : ℕ) → at + wordSize ≤ length b
+    → drop at b ≡ byteAt b at ∷ byteAt b (at + 1) ∷ byteAt b (at + 2) ∷ byteAt b (at + 2 + 1) ∷ drop (at + wordSize) b
 four b at h =
     rw (drop-cons b at 0 (omega arith), drop-cons b (suc at) 0 (omega arith), drop-cons b (suc (suc at)) 0 (omega arith), drop-cons b (suc (suc (suc at))) 0 (omega arith))
     (simp (add-one, add-two, add-four))
@@ -33,11 +34,11 @@ pub word : (b : List ℕ) (at : ℕ) → be32 b at ≡ (byteAt b at * 256 + byte
 unfolding be
 word b at = refl
 
--- a sum with end-around carry beside the plain one: multiples of 65535 are gone, and it is 0 only where the plain one is
+-- a sum with end-around carry beside the plain one: multiples of 0xFFFF are gone, and it is 0 only where the plain one is
 record Folded (sum plain : ℕ) : Type 0 where
   times : ℕ
-  is : plain ≡ sum + 65535 * times
-  most : sum ≤ 65535
+  is : plain ≡ sum + rightSum * times
+  most : sum ≤ rightSum
   some : 0 < plain → 0 < sum
 
 either-some : (plain sum w : ℕ) → (0 < plain → 0 < sum) → 0 < plain + w → 0 < sum + w
@@ -61,49 +62,49 @@ folded-word sum plain high low f h l =
     let g = folded-more (carried (sum + high)) (plain + high) low (folded-more sum plain high f h) l in
     record { times = g .times + high; is = omega (arith, g .is); most = g .most; some = λ k. g .some (omega arith) }
 
--- so it is 0xFFFF where the plain one is a multiple of 65535, and not 0
-folded-test : (sum plain : ℕ) → Folded sum plain → eqb sum 65535 ≡ ltb 0 plain && eqb (plain % 65535) 0
+-- so it is 0xFFFF where the plain one is a multiple of it, and not 0
+folded-test : (sum plain : ℕ) → Folded sum plain → eqb sum rightSum ≡ ltb 0 plain && eqb (plain % rightSum) 0
 folded-test sum plain f =
-    same-flag (eqb sum 65535) (ltb 0 plain && eqb (plain % 65535) 0)
-    (λ e. let q : sum ≡ 65535 = eqb-true sum 65535 e in
-    both-true (ltb 0 plain) (eqb (plain % 65535) 0) (lt-ltb 0 plain (omega arith)) (eq-eqb (plain % 65535) 0 (omega arith)))
-    (λ e. let q = both-of (ltb 0 plain) (eqb (plain % 65535) 0) e in
+    same-flag (eqb sum rightSum) (ltb 0 plain && eqb (plain % rightSum) 0)
+    (λ e. let q : sum ≡ rightSum = eqb-true sum rightSum e in
+    both-true (ltb 0 plain) (eqb (plain % rightSum) 0) (lt-ltb 0 plain (omega arith)) (eq-eqb (plain % rightSum) 0 (omega arith)))
+    (λ e. let q = both-of (ltb 0 plain) (eqb (plain % rightSum) 0) e in
     let l : 0 < plain = ltb-true 0 plain (q .0) in
     let k : 0 < sum = f .some l in
-    let z : plain % 65535 ≡ 0 = eqb-true (plain % 65535) 0 (q .1) in
-    eq-eqb sum 65535 (omega arith))
+    let z : plain % rightSum ≡ 0 = eqb-true (plain % rightSum) 0 (q .1) in
+    eq-eqb sum rightSum (omega arith))
 
 -- the sum so far, of the first n words of 32 bits: how it goes on, and what it is of their plain sum
 record Summed (b : List ℕ) (n : ℕ) : Type 0 where
   sum : ℕ
-  along : sumFrom 0 b ≡ sumFrom sum (drop (4 * n) b)
+  along : sumFrom 0 b ≡ sumFrom sum (drop (wordSize * n) b)
   folded : Folded sum (words b n)
 
 module _ (b : List ℕ) (bytes : (i : ℕ) → byteAt b i < 256) where
   half : (i : ℕ) → byteAt b i * 256 + byteAt b (i + 1) < 65536
   half i = omega (arith, bytes i, bytes (i + 1))
 
-  summed-more : (n : ℕ) → 4 * n + 4 ≤ length b → Summed b n → Summed b (suc n)
+  summed-more : (n : ℕ) → wordSize * n + wordSize ≤ length b → Summed b n → Summed b (suc n)
   unfolding sumFrom words
   summed-more n h p =
-      let at : ℕ = 4 * n in
+      let at : ℕ = wordSize * n in
       let high : ℕ = byteAt b at * 256 + byteAt b (at + 1) in
       let low : ℕ = byteAt b (at + 2) * 256 + byteAt b (at + 2 + 1) in
-      let e : 4 * suc n ≡ at + 4 = omega arith in
+      let e : wordSize * suc n ≡ at + wordSize = omega arith in
       record {
         sum = carried (carried (p .sum + high) + low);
         along = p .along ∙ rw (e, four b at h);
         folded = rw (word b at) (folded-word (p .sum) (words b n) high low (p .folded) (half at) (half (at + 2)));
       }
 
-  summed : (n : ℕ) → 4 * n ≤ length b → Summed b n
+  summed : (n : ℕ) → wordSize * n ≤ length b → Summed b n
   unfolding sumFrom words
   summed zero h = record { sum = 0; along = refl; folded = record { times = 0; is = refl; most = omega arith; some = λ k. k } }
   summed (suc n) h = summed-more n (omega arith) (summed n (omega arith))
 
-  -- the sum with end-around carry of 128 words is 0xFFFF where their plain sum is a multiple of 65535, and not 0
-  pub sum-plain : (w : ℕ) → length b ≡ 512 → w ≡ words b 128 → sumOk b ≡ ltb 0 w && eqb (w % 65535) 0
+  -- the sum with end-around carry of a block is 0xFFFF where their plain sum is a multiple of it, and not 0
+  pub sum-plain : (w : ℕ) → length b ≡ blockSize → w ≡ words b blockWords → sumOk b ≡ ltb 0 w && eqb (w % rightSum) 0
   unfolding sumOk sumFrom
   sum-plain w long e =
-      let p = summed 128 (omega arith) in
-      rw (p .along, drop-of-length-le b {i = 512} (omega arith), e) (folded-test (p .sum) (words b 128) (p .folded))
+      let p = summed blockWords (omega arith) in
+      rw (p .along, drop-of-length-le b {i = blockSize} (omega arith), e) (folded-test (p .sum) (words b blockWords) (p .folded))

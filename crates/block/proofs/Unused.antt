@@ -9,9 +9,9 @@ use lib.Dec.{eqb}
 use lib.ListN.{length, take, drop}
 use borrow.Author.Tests.{ne-eqb}
 use Rattle.wire.specs.Numbers.{byteAt, be32}
-use Rattle.wire.specs.Parts.{part}
-use Rattle.block.specs.Block.{zeros}
-use Rattle.block.specs.Words.{words}
+use Rattle.wire.specs.Parts.{part, allZero}
+use Rattle.block.specs.Block.{blockSize, switchesAt}
+use Rattle.block.specs.Inside.{wordSize, switchesWord, words}
 use Rattle.block.proofs.Sums.{four, word}
 
 -- a sum by weights is 0 where its terms are
@@ -22,7 +22,7 @@ weighed k (suc x) y h = ne-eqb (k * suc x + y) 0 (λ e. omega arith) ∙ rw (ne-
 -- the plain sum of n words, taken from the front
 span : List ℕ → ℕ → ℕ → ℕ
 span b from zero = 0
-span b from (suc n) = be32 b (4 * from) + span b (suc from) n
+span b from (suc n) = be32 b (wordSize * from) + span b (suc from) n
 
 span-words : (b : List ℕ) (n from : ℕ) → span b from n + words b from ≡ words b (from + n)
 unfolding span words
@@ -30,14 +30,14 @@ span-words b zero from = simp (add-zero, zero-add)
 span-words b (suc n) from = let e : from + suc n ≡ suc from + n = omega arith in rw e (omega (arith, span-words b n (suc from)))
 
 -- it is 0 where every byte there is zero
-span-zeros : (b : List ℕ) (n from : ℕ) → 4 * (from + n) ≤ length b → eqb (span b from n) 0 ≡ zeros (take (4 * n) (drop (4 * from) b))
-unfolding span zeros
+span-zeros : (b : List ℕ) (n from : ℕ) → wordSize * (from + n) ≤ length b → eqb (span b from n) 0 ≡ allZero (take (wordSize * n) (drop (wordSize * from) b))
+unfolding span allZero
 span-zeros b zero from h = refl
 span-zeros b (suc n) from h =
-    let at : ℕ = 4 * from in
+    let at : ℕ = wordSize * from in
     let y : ℕ = span b (suc from) n in
-    let bytes : 4 * suc n ≡ suc (suc (suc (suc (4 * n)))) = omega arith in
-    let next : at + 4 ≡ 4 * suc from = omega arith in
+    let bytes : wordSize * suc n ≡ suc (suc (suc (suc (wordSize * n)))) = omega arith in
+    let next : at + wordSize ≡ wordSize * suc from = omega arith in
     let split : be32 b at + y ≡ 16777216 * byteAt b at + (65536 * byteAt b (at + 1) + (256 * byteAt b (at + 2) + (1 * byteAt b (at + 2 + 1) + y))) = omega (arith, word b at) in
     rw (
       bytes,
@@ -51,12 +51,12 @@ span-zeros b (suc n) from h =
       ← span-zeros b n (suc from) (omega arith),
     )
 
--- a sum of words up to word 127 is 0 where the bytes up to the switches are zero
-pub zeros-plain : (b : List ℕ) (from sum : ℕ) → length b ≡ 512 → from ≤ 127 → sum + words b from ≡ words b 127
-    → eqb sum 0 ≡ zeros (part (4 * from) (508 - 4 * from) b)
+-- a sum of words up to the switches is 0 where the bytes there are zero
+pub zeros-plain : (b : List ℕ) (from sum : ℕ) → length b ≡ blockSize → from ≤ switchesWord → sum + words b from ≡ words b switchesWord
+    → eqb sum 0 ≡ allZero (part (wordSize * from) (switchesAt - wordSize * from) b)
 zeros-plain b from sum long h e =
-    let n : ℕ = 127 - from in
-    let end : 127 ≡ from + n = omega arith in
-    let bytes : 508 - 4 * from ≡ 4 * n = omega arith in
+    let n : ℕ = switchesWord - from in
+    let end : switchesWord ≡ from + n = omega arith in
+    let bytes : switchesAt - wordSize * from ≡ wordSize * n = omega arith in
     let s : sum ≡ span b from n = omega (arith, span-words b n from, ap (words b) end) in
     rw (bytes, s) (span-zeros b n from (omega arith))

@@ -4,6 +4,10 @@ use mathlib.Core.Bool.{Bool}
 use mathlib.Core.List.{List, [], _∷_}
 use lib.Dec.{eqb}
 
+-- what the words of a block give: 0xFFFF
+abbrev pub rightSum : ℕ
+rightSum = 65535
+
 -- end-around carry: what an addition carries out of 16 bits is added at the low end
 unfoldable pub carried : ℕ → ℕ
 carried t = t % 65536 + t / 65536
@@ -14,6 +18,6 @@ sumFrom sum [] = sum
 sumFrom sum (a ∷ []) = carried (sum + a * 256)
 sumFrom sum (a ∷ b ∷ rest) = sumFrom (carried (sum + (a * 256 + b))) rest
 
--- the words, summed with end-around carry, give 0xFFFF
+-- the words, summed with end-around carry, give that
 unfoldable pub sumOk : List ℕ → Bool
-sumOk b = eqb (sumFrom 0 b) 65535
+sumOk b = eqb (sumFrom 0 b) rightSum

@@ -1,20 +1,18 @@
 -- Two answers that meet a function's promise are equal.
-use Prim.Native.Nat.{ℕ}
 use mathlib.Core.Path.{_≡_, sym, _∙_}
-use Rattle.clock.specs.declared.Clock.{Clock}
-use Rattle.clock.specs.declared.Tick.{Tick}
-use Rattle.clock.specs.declared.Units.{Units}
-use Rattle.clock.specs.Clock.{startOf, advanceOf, arrivalOf}
-use Rattle.clock.specs.Unix.{unixOf}
+use Rattle.clock.proofs.Clock.start.Reads as start
+use Rattle.clock.proofs.Clock.advance.Reads as advance
+use Rattle.clock.proofs.unix.Reads as unix
+use Rattle.clock.proofs.arrival.Reads as arrival
 
-pub start-determined : (t : ℕ) (a b : Tick) → a ≡ startOf t → b ≡ startOf t → a ≡ b
-start-determined t a b p q = p ∙ sym q
+pub start-determined : (κs : _) (a : _) (x y : _) (e f : _) → start.Post κs a x e → start.Post κs a y f → x ≡ y
+start-determined κs a x y e f p q = p ∙ sym q
 
-pub advance-determined : (c : Clock) (t : ℕ) (a b : Tick) → a ≡ advanceOf c t → b ≡ advanceOf c t → a ≡ b
-advance-determined c t a b p q = p ∙ sym q
+pub advance-determined : (κs : _) (a : _) (x y : _) (e f : _) → advance.Post κs a x e → advance.Post κs a y f → x ≡ y
+advance-determined κs a x y e f p q = p ∙ sym q
 
-pub unix-determined : (s n : ℕ) (a b : Units) → a ≡ unixOf s n → b ≡ unixOf s n → a ≡ b
-unix-determined s n a b p q = p ∙ sym q
+pub unix-determined : (κs : _) (a : _) (x y : _) (e f : _) → unix.Post κs a x e → unix.Post κs a y f → x ≡ y
+unix-determined κs a x y e f p q = p ∙ sym q
 
-pub arrival-determined : (y a b : ℕ) → a ≡ arrivalOf y → b ≡ arrivalOf y → a ≡ b
-arrival-determined y a b p q = p ∙ sym q
+pub arrival-determined : (κs : _) (a : _) (x y : _) (e f : _) → arrival.Post κs a x e → arrival.Post κs a y f → x ≡ y
+arrival-determined κs a x y e f p q = p ∙ sym q

@@ -1,4 +1,3 @@
 -- Laws over the clock's definitions, for all readings whatever.
-pub mod Tests
 pub mod Laws
 pub mod Determined

@@ -1,13 +1,27 @@
 -- The clock: what starting it and each new reading give. Units are 1/65536 s since NTP era 0, from 0 to 2^48 - 1.
 use Prim.Native.Nat.{ℕ, _+_, _-_, _/_, _%_, min, max}
-use mathlib.Core.Bool.{cond}
+use mathlib.Core.Bool.{Bool, cond, _||_}
+use mathlib.Core.List.{List, [], _∷_}
 use lib.Dec.{ltb}
+use Rattle.rows.specs.Rows.{Row, row, byFirst}
 use Rattle.clock.specs.declared.Clock.{Clock}
 use Rattle.clock.specs.declared.Tick.{Tick}
 
 -- the last time there is: 2^48 - 1
-abbrev pub last : ℕ
-last = 281474976710655
+abbrev pub lastTime : ℕ
+lastTime = 281474976710655
+
+-- a time or a reading over it
+abbrev pub outOfRange : ℕ → Bool
+outOfRange t = ltb lastTime t
+
+-- refused for the reading
+abbrev pub clockReading : ℕ
+clockReading = 31
+
+-- refused for the clock that was given
+abbrev pub clockState : ℕ
+clockState = 33
 
 -- a clock whose last reading is r and whose last issued time is y
 abbrev pub clockOf : ℕ → ℕ → Clock
@@ -18,25 +32,36 @@ abbrev pub issued : ℕ → ℕ → Tick
 issued r y = record { number = 0; clock = clockOf r y; time = y }
 
 -- refused by a number: a clock to go on with, and time 0
-abbrev pub refused : ℕ → Clock → Tick
-refused n c = record { number = n; clock = c; time = 0 }
+abbrev pub refusedTick : ℕ → Clock → Tick
+refusedTick n c = record { number = n; clock = c; time = 0 }
 
 -- a reading below the last one: y stays. Else, d = t - r: the larger of t and y + floor(d/2), but at most 2^48 - 1
 unfoldable pub timeFor : Clock → ℕ → ℕ
-timeFor c t = cond (ltb t (c .r)) (c .y) (min last (max t (c .y + (t - c .r) / 2)))
+timeFor c t = cond (ltb t (c .r)) (c .y) (min lastTime (max t (c .y + (t - c .r) / 2)))
 
--- a clock starts from a reading t, and issues t. A reading over 2^48 - 1 is 31: the clock of reading 0
+-- what a start refuses: a reading over 2^48 - 1
+abbrev pub startRows : ℕ → List Row
+startRows t = row clockReading (outOfRange t) ∷ []
+
+-- what an advance refuses, in this order: y below r, or y over 2^48 - 1; a reading over 2^48 - 1
+abbrev pub advanceRows : Clock → ℕ → List Row
+advanceRows c t =
+    row clockState (ltb (c .y) (c .r) || outOfRange (c .y))
+    ∷ row clockReading (outOfRange t)
+    ∷ []
+
+-- a clock starts from a reading t, and issues t; where that is refused it is the clock of reading 0
 unfoldable pub startOf : ℕ → Tick
-startOf t = cond (ltb last t) (refused 31 (clockOf 0 0)) (issued t t)
+startOf t = byFirst (λ n. refusedTick n (clockOf 0 0)) (issued t t) (startRows t)
 
--- a new reading t. In this order: y below r, or y over 2^48 - 1, is 33; a reading over 2^48 - 1 is 31
+-- a new reading t; where it is refused the clock is the one given
 unfoldable pub advanceOf : Clock → ℕ → Tick
-advanceOf c t =
-    cond (ltb (c .y) (c .r)) (refused 33 c)
-    (cond (ltb last (c .y)) (refused 33 c)
-    (cond (ltb last t) (refused 31 c)
-    (issued t (timeFor c t))))
+advanceOf c t = byFirst (λ n. refusedTick n c) (issued t (timeFor c t)) (advanceRows c t)
+
+-- how many arrival times there are: 2^32
+abbrev pub arrivalTimes : ℕ
+arrivalTimes = 4294967296
 
 -- the Query Arrival Time: y modulo 2^32
 abbrev pub arrivalOf : ℕ → ℕ
-arrivalOf y = y % 4294967296
+arrivalOf y = y % arrivalTimes

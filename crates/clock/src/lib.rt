@@ -1,7 +1,7 @@
 // A clock that follows its host forwards, never goes back, and works off a lead at half rate.
 ghost use mathlib.Core.Path.{_≡_};
 ghost use Prim.Native.Nat.{_≤_, min, max};
-ghost use Rattle.clock.specs.Clock.{last, timeFor, startOf, advanceOf, arrivalOf};
+ghost use Rattle.clock.specs.Clock.{lastTime, timeFor, startOf, advanceOf, arrivalOf};
 ghost use Rattle.clock.specs.Unix.{unixOf};
 
 // The last reading r and the last issued time y, in units of 1/65536 s since NTP era 0.
@@ -23,8 +23,27 @@ pub struct Units {
     pub units: u64,
 }
 
-// The last time there is.
-const LAST: u64 = 281474976710655;
+const LAST_TIME: u64 = 281474976710655;
+
+const CLOCK_READING: u32 = 31;
+
+const CLOCK_UNIX: u32 = 32;
+
+const CLOCK_STATE: u32 = 33;
+
+const ARRIVAL_TIMES: u64 = 4294967296;
+
+const UNIX_EPOCH: u64 = 2208988800;
+
+const LAST_SECOND: u64 = 2085978495;
+
+const SECOND_UNITS: u64 = 65536;
+
+const SECOND_NANOS: u64 = 1000000000;
+
+const RATIO_UNITS: u64 = 128;
+
+const RATIO_NANOS: u64 = 1953125;
 
 fn smaller(a: u64, b: u64) -> u64
     ensures { λ r. ⌜ r ≡ min a b ⌝ }
@@ -43,9 +62,9 @@ impl Clock {
     pub fn start(reading: u64) -> Tick
         ensures { λ k. ⌜ k ≡ startOf reading ⌝ }
     {
-        if LAST < reading {
+        if LAST_TIME < reading {
             return Tick {
-                number: 31,
+                number: CLOCK_READING,
                 clock: Clock { r: 0, y: 0 },
                 time: 0,
             };
@@ -66,23 +85,16 @@ impl Clock {
     {
         let r = self.r;
         let y = self.y;
-        if y < r {
+        if y < r || LAST_TIME < y {
             return Tick {
-                number: 33,
+                number: CLOCK_STATE,
                 clock: self,
                 time: 0,
             };
         }
-        if LAST < y {
+        if LAST_TIME < t {
             return Tick {
-                number: 33,
-                clock: self,
-                time: 0,
-            };
-        }
-        if LAST < t {
-            return Tick {
-                number: 31,
+                number: CLOCK_READING,
                 clock: self,
                 time: 0,
             };
@@ -97,7 +109,7 @@ impl Clock {
 
     // The time issued for a reading that is accepted.
     fn time_for(self, t: u64) -> u64
-        requires { ⌜ (self .y ≤ last) × (t ≤ last) ⌝ }
+        requires { ⌜ (self .y ≤ lastTime) × (t ≤ lastTime) ⌝ }
         ensures { λ y. ⌜ y ≡ timeFor self t ⌝ }
     {
         let r = self.r;
@@ -105,7 +117,7 @@ impl Clock {
         if t < r {
             return y;
         }
-        smaller(LAST, larger(t, y + (t - r) / 2))
+        smaller(LAST_TIME, larger(t, y + (t - r) / 2))
     }
 }
 
@@ -113,21 +125,15 @@ impl Clock {
 pub fn unix(seconds: u64, nanoseconds: u64) -> Units
     ensures { λ u. ⌜ u ≡ unixOf seconds nanoseconds ⌝ }
 {
-    if 2085978495 < seconds {
+    if LAST_SECOND < seconds || SECOND_NANOS <= nanoseconds {
         return Units {
-            number: 32,
-            units: 0,
-        };
-    }
-    if 1000000000 <= nanoseconds {
-        return Units {
-            number: 32,
+            number: CLOCK_UNIX,
             units: 0,
         };
     }
     Units {
         number: 0,
-        units: (seconds + 2208988800) * 65536 + nanoseconds * 128 / 1953125,
+        units: (seconds + UNIX_EPOCH) * SECOND_UNITS + nanoseconds * RATIO_UNITS / RATIO_NANOS,
     }
 }
 
@@ -135,5 +141,5 @@ pub fn unix(seconds: u64, nanoseconds: u64) -> Units
 pub fn arrival(y: u64) -> u32
     ensures { λ r. ⌜ r ≡ arrivalOf y ⌝ }
 {
-    (y % 4294967296) as u32
+    (y % ARRIVAL_TIMES) as u32
 }

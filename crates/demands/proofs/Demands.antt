@@ -1,121 +1,61 @@
--- The three demands on the whole and the worked examples, each in a line or two that cites its proof. That every function is
--- safe and ends on every input is what it means that its crate is proved: none of those that a host calls has a `requires`.
-use Prim.Native.Nat.{ℕ, zero, suc, _+_, _*_, _-_, _≤_, _<_}
+-- What is proved of the demands, in one page: each line is a theorem, and cites its proof. The demands themselves are in specs/:
+-- Engine.antt (1 and 2), Clock.antt (2, the times), Walk.antt (3), Entries.antt (how C is handed what they speak of).
+use Prim.Native.Nat.{ℕ}
 use mathlib.Core.List.{List, []}
-use mathlib.Core.Logic.{_⊎_, inl, inr, ⊎-elim}
-use mathlib.Core.Path.{_≡_, refl}
-use native.Mathlib.Omega.{arith}
-use borrow.Author.Tests.{eqb-true, eqb-false}
-use lib.Dec.{eqb}
-use lib.ListN.{length, take, drop, set}
-use lib.Seq.{take-append-seam}
-use Rattle.wire.specs.Numbers.{byteAt}
-use Rattle.wire.specs.Parts.{part}
-use Rattle.rows.proofs.Tests.{decided}
-use Rattle.wire.proofs.Laws.{splice-front}
+use mathlib.Core.Path.{_≡_}
+use Rattle.rows.specs.Rows.{NoneApplies}
 use Rattle.clock.specs.declared.Clock.{Clock}
-use Rattle.clock.specs.Readings.{Sound, Rising, NeverFall, after, issues}
-use Rattle.clock.proofs.Laws.{issues-never-fall, lead-shrinks}
-use Rattle.response.specs.Code.{testsOf}
-use Rattle.response.specs.Fill.{blockOf}
-use Rattle.response.specs.Bytes.{blockBytes}
-use Rattle.response.proofs.Laws.{Noted, results}
-use Rattle.message.specs.Format.{most, standardSize, codeOffset}
-use Rattle.message.specs.Header.{headerOf}
-use Rattle.drops.specs.Arrival.{Arrival}
-use Rattle.drops.specs.Drop.{dropOf}
-use Rattle.engine.specs.View.{viewOf}
-use Rattle.engine.specs.Answer.{sentOn, sentHome, fullMessage, sentBy}
-use Rattle.engine.specs.Step.{Outcome, outcome, stepOf, StepMeets}
-use Rattle.engine.proofs.LawsDrop.{drop-numbers, drop-changes-nothing}
-use Rattle.engine.proofs.LawsSent.{accepted-is-answered, sent-begins, sent-full, sent-block, sent-code-is-first}
-use Rattle.engine.proofs.Determined.{step-determined}
-use Rattle.yard.specs.declared.Walked.{Walked}
-use Rattle.yard.specs.Walk.{toGroup, nobodyThere, Visit, Walk, walkOf, WalkMeets}
-use Rattle.yard.proofs.Faithful.{Starts, Faithful, walk-is-faithful}
-use Rattle.yard.proofs.Determined.{walk-determined}
-use Rattle.demands.proofs.Worked.{failing, examples, worked}
+use Rattle.clock.specs.declared.Units.{Units}
+use Rattle.clock.specs.Clock.{startOf, advanceOf, arrivalOf}
+use Rattle.clock.specs.Unix.{unixOf}
+use Rattle.message.specs.Format.{most}
+use Rattle.engine.specs.Step.{stepOf}
+use Rattle.yard.specs.Walk.{Visit, walkRows}
+use Rattle.demands.specs.Engine.{Engine, Call, run, rows, EngineMeets}
+use Rattle.demands.specs.Clock.{Start, Advance, DemandClock, DemandUnix}
+use Rattle.demands.specs.Walk.{Walker, callAt, WalkMeets}
+use Rattle.demands.specs.Example.{twoRouters, twoTimes, paperQuery, startWith}
+use Rattle.demands.proofs.EngineMet.{engine-meets, no-other-engine}
+use Rattle.demands.proofs.ClockMet.{clock-meets, no-other-clock, unix-meets, no-other-unix}
+use Rattle.demands.proofs.WalkMet.{walkTold, walk-meets, no-other-walk}
+use Rattle.demands.proofs.Worked.{failing, examples, worked, starts}
 
--- 1. Whatever arrives is dropped, by a number from 1 to 19 and with nothing lent changed, or answered by 100 or 101
-module _ (a : Arrival) (time : ℕ) (sheet recent output note : List ℕ) where
-  abbrev done : Outcome
-  done = stepOf a time sheet recent output note
+-- 1 and 2. The engine meets them, and whatever does gives its outcome in every call
+pub engine-is-right : EngineMeets stepOf
+engine-is-right = engine-meets
 
-  abbrev number : ℕ
-  number = dropOf a sheet recent (length output) (length note)
+pub engine-is-one : (engine : Engine) → EngineMeets engine → (c : Call) → run engine c ≡ run stepOf c
+engine-is-one = no-other-engine
 
-  pub dropped-or-answered : ((1 ≤ number) × (number ≤ 19) × (done ≡ outcome number recent output note)) ⊎ ((done .answer ≡ sentOn) ⊎ (done .answer ≡ sentHome))
-  dropped-or-answered =
-      ⊎-elim (λ e. inr (accepted-is-answered a time sheet recent output note (eqb-true number 0 e)))
-      (λ e. inl (positive number (eqb-false number 0 e), drop-numbers a sheet recent (length output) (length note), drop-changes-nothing a time sheet recent output note (eqb-false number 0 e)))
-      (decided (eqb number 0)) where
-        positive : (n : ℕ) → (n ≡ 0 → ⊥) → 1 ≤ n
-        positive zero h = absurd (h refl)
-        positive (suc n) h = omega arith
+-- the clock, UNIX time and the arrival time
+pub clock-is-right : DemandClock startOf advanceOf
+clock-is-right = clock-meets
 
-  -- and the promise leaves no choice, neither of the answer nor of any lent byte
-  pub one-outcome : (x y : Outcome) → StepMeets a time sheet recent output note x → StepMeets a time sheet recent output note y → x ≡ y
-  one-outcome = step-determined a time sheet recent output note
+pub clock-is-one : (start : Start) (advance : Advance) → DemandClock start advance
+    → ((t : ℕ) → start t ≡ startOf t) × ((c : Clock) (t : ℕ) → advance c t ≡ advanceOf c t)
+clock-is-one = no-other-clock
 
--- 2. What is sent is the message received but for its type, and behind it this router's block, whose code is the first that
--- applies; where there is no room, the message with 0x81 in its last type 4 block
-module _ (a : Arrival) (time : ℕ) (sheet : List ℕ) where
-  abbrev m : List ℕ
-  m = a .message
+pub unix-is-right : DemandUnix unixOf arrivalOf
+unix-is-right = unix-meets
 
-  abbrev out : List ℕ
-  out = sentBy a time sheet .message
+pub unix-is-one : (unix : ℕ → ℕ → Units) (arrival : ℕ → ℕ) → DemandUnix unix arrival
+    → ((s n : ℕ) → unix s n ≡ unixOf s n) × ((y : ℕ) → arrival y ≡ arrivalOf y)
+unix-is-one = no-other-unix
 
-  pub begins-with-what-came : 0 < length m → length m + standardSize ≤ most → take (length m) out ≡ set m 0 (byteAt out 0)
-  begins-with-what-came = sent-begins a time sheet
+-- 3. The walk meets it, and whatever does, through whatever engine meets 1 and 2, tells the same of every yard
+pub walk-is-right : WalkMeets stepOf walkTold
+walk-is-right = walk-meets
 
-  pub then-its-block : length m + standardSize ≤ most → part (length m) standardSize out ≡ blockBytes (blockOf (viewOf a time sheet))
-  then-its-block = sent-block a time sheet
+pub walk-is-one : (engine : Engine) (walk : Walker) → EngineMeets engine → WalkMeets engine walk → (yard times : List ℕ) (v : Visit) (output : List ℕ)
+    → walk yard times v output ≡ walkTold yard times v output
+walk-is-one = no-other-walk
 
-  pub with-the-first-code : length m + standardSize ≤ most → Noted (results (testsOf (viewOf a time sheet))) (byteAt out (length m + codeOffset))
-  with-the-first-code = sent-code-is-first a time sheet
+-- what it says of traces that the first router accepts is said of some: P1's is one
+pub some-trace-starts : NoneApplies (walkRows (twoRouters 0) twoTimes (startWith (paperQuery 10)) most)
+    × NoneApplies (rows (callAt (twoRouters 0) twoTimes (startWith (paperQuery 10))))
+some-trace-starts = starts
 
-  pub or-no-space : most < length m + standardSize → (out ≡ fullMessage m) × (sentBy a time sheet .answer ≡ sentHome)
-  or-no-space = sent-full a time sheet
-
--- and the times that a clock issues never fall, each at least its reading; a lead shrinks at half rate
-pub times-never-fall : (c : Clock) (ts : List ℕ) → NeverFall (c .y) (issues c ts)
-times-never-fall = issues-never-fall
-
-pub leads-shrink : (ts : List ℕ) (c : Clock) → Sound c → Rising (c .r) ts
-    → (c .r ≤ after c ts .r) × (2 * (after c ts .y - after c ts .r) ≤ 2 * (c .y - c .r) - (after c ts .r - c .r))
-leads-shrink = lead-shrinks
-
--- 3. Every trace that is not refused and that its first router accepts comes home: within its hop number of steps, and within
--- 28; its steps are the visits of a walk that tells the truth, block by block, and the output begins with its last message
-pub record Comes (yard times : List ℕ) (v : Visit) (r : Walked) (output : List ℕ) : Type 0 where
-  pub by-hops : r .steps ≤ headerOf (v .arrival .message) .hops
-  pub by-room : r .steps ≤ 28
-  pub end : (r .end ≡ sentHome) ⊎ ((r .end ≡ toGroup) ⊎ (r .end ≡ nobodyThere))
-  pub walk : Walk
-  pub steps : r .steps ≡ length (walk .visits)
-  pub sent : take (r .length) output ≡ walk .last
-  pub truth : Faithful yard times v walk
-
-pub comes-home : (yard times : List ℕ) (v : Visit) (old : List ℕ) (r : Walked) (new : List ℕ) → Starts yard times v (length old)
-    → WalkMeets yard times v old r new → Comes yard times v r new
-comes-home yard times v old r new starts meets =
-    let w = walkOf yard times v (length old) in
-    let f = walk-is-faithful yard times v (length old) starts in
-    record {
-      by-hops = rw (meets .steps) (f .by-hops);
-      by-room = rw (meets .steps) (f .by-room);
-      end = rw (meets .end) (f .end);
-      walk = w;
-      steps = meets .steps;
-      sent = rw (meets .long, meets .sends, splice-front old (w .last)) (take-append-seam (w .last) (drop (length (w .last)) old));
-      truth = f;
-    }
-
-pub one-walk : (yard times : List ℕ) (v : Visit) (old : List ℕ) (r s : Walked) (r-new s-new : List ℕ)
-    → WalkMeets yard times v old r r-new → WalkMeets yard times v old s s-new → (r ≡ s) × (r-new ≡ s-new)
-one-walk = walk-determined
-
--- P1 to P8: none of the worked examples fails
+-- The wrong programs that the demands shut out are in ShutOut.antt; the six entries that a host calls, and what they leave, in
+-- Entries.antt. P1 to P8: none of the worked examples fails
 pub worked-through : failing examples ≡ []
 worked-through = worked

@@ -1,3 +1,10 @@
--- The demands, each in a line or two that cites its proof, and the worked examples.
-pub mod Worked
+-- What is proved of the demands, in one page; the wrong programs that they shut out; and the entries that a host calls.
 pub mod Demands
+pub mod ShutOut
+pub mod Entries
+-- Where it is proved that the product meets them and that they leave no choice; and the worked examples.
+mod EngineMet
+mod ClockMet
+mod WalkMet
+mod Opened
+mod Worked

@@ -6,37 +6,19 @@ use mathlib.Core.List.{List, [], _∷_, _++_, map}
 use mathlib.Core.Path.{_≡_, refl}
 use lib.Dec.{eqb}
 use lib.ListN.{length}
-use Rattle.wire.specs.Numbers.{byteAt, be, be32, bytes}
-use Rattle.wire.specs.Parts.{splice}
-use Rattle.clock.specs.Clock.{timeFor, startOf, advanceOf, arrivalOf}
+use Rattle.wire.specs.Numbers.{byteAt, be32}
+use Rattle.clock.specs.Clock.{startOf, arrivalOf}
 use Rattle.clock.specs.Unix.{unixOf}
 use Rattle.clock.specs.Readings.{Issue, issues}
-use Rattle.block.specs.Sum.{carried, sumFrom, sumOk}
-use Rattle.block.specs.Block.{zeros, frameOk}
-use Rattle.entry.specs.Prefix.{hosts, samePrefix, zeroPast}
-use Rattle.entry.specs.Interface.{interfaceAt, interfaceOk}
-use Rattle.entry.specs.Route.{routeAt, routeOk}
-use Rattle.sheet.specs.Every.{every, listed}
-use Rattle.sheet.specs.Rules.{blockOk}
-use Rattle.sheet.specs.Sheet.{interfaceBlocksIn, interfaceBlocks, entriesIn, interfacesIn, routesIn, blockOkAt, validSheet, counted, layoutOf}
-use Rattle.sheet.specs.Tables.{interfaceOf, routeOf, interfacesOf, routesOf, prohibitedOf, holderFrom, holderOf}
-use Rattle.route.specs.Choice.{servesBoth, servesGroup, servesSource, longer, longestBy, orElse, whichRoute}
-use Rattle.route.specs.LastHop.{reaches, someReaches, properLastHop}
-use Rattle.response.specs.Code.{testsOf, codeOf}
-use Rattle.response.specs.Fill.{filledOf, blockOf, endsTrace}
-use Rattle.response.specs.Bytes.{blockBytes}
-use Rattle.message.specs.Header.{headerOf}
-use Rattle.message.specs.Blocks.{fitsIn, begins, blocksBy, blocksFrom, blocksOf, totalSize, standardPlaces, lastOr, standards, standardCount, blocksEnd, standardFirst, fillsMessage, rightForm}
-use Rattle.message.specs.Check.{firstRow, numberOf}
-use Rattle.recent.specs.Layout.{allZero, wellFormed}
-use Rattle.recent.specs.Entries.{empty, firstEntries, someIsOf, seenIn}
-use Rattle.drops.specs.Arrival.{routeFor, lastHopFor}
-use Rattle.drops.specs.Drop.{lendingRow, deliveryRow, routeRow, dropOf}
-use Rattle.engine.specs.View.{incomingFor, viewWith}
-use Rattle.engine.specs.Answer.{longerMessage, longerAnswer, sentBy}
-use Rattle.yard.specs.Yard.{sheetAt, yardOk, lowestFrom, holderIn}
-use Rattle.yard.specs.Walk.{Walk, sentFor, endOf, walkBy, walkFrom, walkOf}
-use Rattle.demands.specs.Example.{address, block, yard, query, trace}
+use Rattle.message.specs.Format.{codeOffset, most}
+use Rattle.message.specs.Blocks.{standards, standardCount}
+use Rattle.rows.specs.Rows.{NoneApplies}
+use Rattle.rows.proofs.Laws.{zero-none}
+use Rattle.yard.specs.Walk.{Visit, Walk, walkRows}
+use Rattle.demands.specs.Engine.{rows}
+use Rattle.demands.specs.Walk.{callAt}
+use Rattle.demands.specs.Example.{address, twoRouters, twoTimes, paperQuery, startWith, traced}
+use Rattle.demands.proofs.Opened.{opened}
 
 -- an example: its number, what the definitions give, what the paper says
 pub record Example : Type 0 where
@@ -59,16 +41,16 @@ failing [] = []
 failing (e ∷ es) = let rest = failing es in let here = e .number ∷ rest in cond (same (e .got) (e .said)) rest here
 
 -- of a walk: its end and steps, the blocks and the length of the last message
-abbrev pub told : Walk → List ℕ
-told w = w .end ∷ length (w .visits) ∷ standardCount (w .last) ∷ length (w .last) ∷ []
+abbrev pub summary : Walk → List ℕ
+summary w = w .end ∷ length (w .visits) ∷ standardCount (w .last) ∷ length (w .last) ∷ []
 
 -- of the last message: its codes; and its lines, outgoing, incoming and upstream address and code of each block
-abbrev pub codes : Walk → List ℕ
-codes w = map (λ (at : ℕ). byteAt (w .last) (at + 51)) (standards (w .last))
+abbrev pub codesOf : Walk → List ℕ
+codesOf w = map (λ (at : ℕ). byteAt (w .last) (at + codeOffset)) (standards (w .last))
 
 abbrev pub linesAt : List ℕ → List ℕ → List ℕ
 linesAt m [] = []
-linesAt m (at ∷ places) = be32 m (at + 12) ∷ be32 m (at + 8) ∷ be32 m (at + 16) ∷ byteAt m (at + 51) ∷ linesAt m places
+linesAt m (at ∷ places) = be32 m (at + 12) ∷ be32 m (at + 8) ∷ be32 m (at + 16) ∷ byteAt m (at + codeOffset) ∷ linesAt m places
 
 abbrev pub lines : Walk → List ℕ
 lines w = linesAt (w .last) (standards (w .last))
@@ -78,26 +60,29 @@ lines w = linesAt (w .last) (standards (w .last))
 unfoldable pub examples : List Example
 examples =
     let loop = address 198 51 100 1 in
-    let full = trace loop 255 in
-    example 1 (told (trace 0 10) ++ lines (trace 0 10))
+    let full = traced loop 255 in
+    example 1 (summary (traced 0 10) ++ lines (traced 0 10))
     (101 ∷ 2 ∷ 2 ∷ 124
     ∷ address 192 0 2 1 ∷ address 198 51 100 1 ∷ address 198 51 100 2 ∷ 0
     ∷ address 198 51 100 2 ∷ address 203 0 113 1 ∷ 0 ∷ 0 ∷ [])
-    ∷ example 2 (told (trace loop 10) ++ codes (trace loop 10)) (101 ∷ 10 ∷ 10 ∷ 540 ∷ 0 ∷ 0 ∷ 9 ∷ 0 ∷ 9 ∷ 0 ∷ 9 ∷ 0 ∷ 9 ∷ 0 ∷ [])
-    ∷ example 3 (told full ++ (byteAt (full .last) 1423 ∷ [])) (101 ∷ 28 ∷ 27 ∷ 1424 ∷ 129 ∷ [])
-    ∷ example 4 (told (trace loop 1)) (101 ∷ 1 ∷ 1 ∷ 72 ∷ [])
-    ∷ example 5 (told (trace loop 0)) (8 ∷ 1 ∷ 0 ∷ 0 ∷ [])
+    ∷ example 2 (summary (traced loop 10) ++ codesOf (traced loop 10)) (101 ∷ 10 ∷ 10 ∷ 540 ∷ 0 ∷ 0 ∷ 9 ∷ 0 ∷ 9 ∷ 0 ∷ 9 ∷ 0 ∷ 9 ∷ 0 ∷ [])
+    ∷ example 3 (summary full ++ (byteAt (full .last) 1423 ∷ [])) (101 ∷ 28 ∷ 27 ∷ 1424 ∷ 129 ∷ [])
+    ∷ example 4 (summary (traced loop 1)) (101 ∷ 1 ∷ 1 ∷ 72 ∷ [])
+    ∷ example 5 (summary (traced loop 0)) (8 ∷ 1 ∷ 0 ∷ 0 ∷ [])
     ∷ example 6 (map (λ (i : Issue). i .time) (issues (startOf 1000 .clock) (1010 ∷ 1000 ∷ 1004 ∷ 1016 ∷ 1024 ∷ [])))
     (1010 ∷ 1010 ∷ 1012 ∷ 1018 ∷ 1024 ∷ [])
     ∷ example 7 (arrivalOf (unixOf 0 0 .units) ∷ []) (2122317824 ∷ [])
     ∷ example 8 ((unixOf 0 999999999 .units - unixOf 0 0 .units) ∷ []) (65535 ∷ [])
     ∷ []
 
--- all that the examples compute with, layer by layer
-unfoldable opened : ℕ
-unfolding be bytes splice carried sumFrom sumOk zeros frameOk hosts samePrefix zeroPast interfaceAt interfaceOk routeAt routeOk every listed blockOk interfaceBlocksIn interfaceBlocks entriesIn interfacesIn routesIn blockOkAt validSheet counted layoutOf interfaceOf routeOf interfacesOf routesOf prohibitedOf holderFrom holderOf servesBoth servesGroup servesSource longer longestBy orElse whichRoute reaches someReaches properLastHop testsOf codeOf filledOf blockOf endsTrace blockBytes headerOf fitsIn begins blocksBy blocksFrom blocksOf totalSize standardPlaces lastOr standards blocksEnd standardFirst fillsMessage rightForm firstRow numberOf allZero wellFormed empty firstEntries someIsOf seenIn routeFor lastHopFor lendingRow deliveryRow routeRow dropOf incomingFor viewWith longerMessage longerAnswer sentBy sheetAt yardOk lowestFrom holderIn sentFor endOf walkBy walkFrom walkOf block yard query trace issues startOf advanceOf timeFor unixOf examples
-opened = 0
-
 pub worked : failing examples ≡ []
-unfolding opened
+unfolding opened examples
 worked = refl
+
+-- P1's trace is not refused, and its first router accepts it
+abbrev p1 : Visit
+p1 = startWith (paperQuery 10)
+
+pub starts : NoneApplies (walkRows (twoRouters 0) twoTimes p1 most) × NoneApplies (rows (callAt (twoRouters 0) twoTimes p1))
+unfolding opened
+starts = (zero-none (walkRows (twoRouters 0) twoTimes p1 most) refl refl, zero-none (rows (callAt (twoRouters 0) twoTimes p1)) refl refl)

@@ -1,2 +1,6 @@
--- The yard and the Query of document 01, "Worked through", in bytes.
+-- The demands of document 01 on any engine, clock and walk, and its worked examples.
+pub mod Engine
+pub mod Clock
+pub mod Walk
+pub mod Entries
 pub mod Example

@@ -1,12 +1,7 @@
--- Two answers that meet the promise are equal.
-use Prim.Native.Nat.{ℕ}
-use mathlib.Core.List.{List}
+-- Two answers that meet what the function ensures are equal.
 use mathlib.Core.Path.{_≡_}
-use Rattle.wire.proofs.Determined.{both-are}
-use Rattle.drops.specs.declared.Verdict.{Verdict}
-use Rattle.drops.specs.Arrival.{Arrival}
-use Rattle.drops.specs.Verdict.{verdictOf}
+use Rattle.wire.proofs.Laws.{both-are}
+use Rattle.drops.proofs.judge.Reads as judge
 
-pub judge-determined : (x : Arrival) (sheet recent : List ℕ) (output note : ℕ) (a b : Verdict) → a ≡ verdictOf x sheet recent output note
-    → b ≡ verdictOf x sheet recent output note → a ≡ b
-judge-determined x sheet recent output note a b = both-are
+pub judge-determined : (κs : _) (a : _) (x y : _) (e f : _) → judge.Post κs a x e → judge.Post κs a y f → x ≡ y
+judge-determined κs a x y e f = both-are

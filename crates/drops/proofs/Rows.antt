@@ -1,18 +1,18 @@
 -- A law for each way out of a function: what its tests showed and what its callees answered, and the definition's answer.
-use Prim.Native.Nat.{ℕ, _+_, _≤_}
+use Prim.Native.Nat.{ℕ, _+_, _<_}
 use mathlib.Core.Bool.{Bool, true, false, not, _&&_}
-use mathlib.Core.List.{List}
+use mathlib.Core.List.{List, _++_}
 use mathlib.Core.Path.{_≡_, refl, sym, ap, _∙_}
-use lib.Dec.{ltb, eqb}
-use lib.ListN.{length}
+use native.Mathlib.Omega.{arith}
+use lib.Dec.{eqb}
 use borrow.Author.Tests.{eq-eqb, ne-eqb, not-false}
 use Rattle.wire.specs.Addresses.{linkScoped}
-use Rattle.rows.proofs.Tests.{passed}
-use Rattle.recent.specs.Layout.{wellFormed, Formed}
+use Rattle.recent.specs.Layout.{wellFormed}
+use Rattle.recent.specs.Inside.{Formed}
 use Rattle.recent.proofs.Laws.{formed}
 use Rattle.sheet.specs.declared.layout.Layout.{Layout}
-use Rattle.sheet.specs.declared.tables.Found.{Found}
-use Rattle.sheet.specs.declared.tables.Found.the-variants.{At, Nothing}
+use Rattle.sheet.specs.declared.tables.Holding.{Holding}
+use Rattle.sheet.specs.declared.tables.Holding.the-variants.{At, Nowhere}
 use Rattle.sheet.specs.Sheet.{layoutOf}
 use Rattle.sheet.specs.Tables.{interfaceOf, routesOf, holderOf}
 use Rattle.route.specs.declared.Chosen.{Chosen}
@@ -23,50 +23,68 @@ use Rattle.message.specs.declared.Blocks.{Blocks}
 use Rattle.message.specs.declared.Checked.{Checked}
 use Rattle.message.specs.Header.{headerOf}
 use Rattle.message.specs.Blocks.{standardCount}
-use Rattle.message.specs.Check.{accepted, checkOf, numberOf, blocksSeen}
-use Rattle.message.proofs.Accept.{check-number, check-accepts, accepts-as}
+use Rattle.message.specs.Check.{headerRows, messageRows}
+use Rattle.message.specs.Inside.{acceptedMessage, checkOf, blocksSeen}
+use Rattle.message.proofs.Laws.{check-number, check-accepts, accepts-as}
 use Rattle.drops.specs.declared.Verdict.{Verdict}
 use Rattle.drops.specs.Arrival.{arrival, isQuery, routeFor, lastHopFor}
-use Rattle.drops.specs.Drop.{isHeld, noteSize, orElse, lendingRow, deliveryRow, routeRow, dropOf}
-use Rattle.drops.specs.Verdict.{dropped, taken, orDropped, routedOf, verdictOf}
+use Rattle.rows.specs.Rows.{Row, byFirst, firstOf}
+use Rattle.rows.proofs.Laws.{given-alone, none-alone, given-by, none-by, zero-none, none-at}
+use Rattle.message.specs.Format.{query, standardSize}
+use lib.ListN.{length}
+use Rattle.message.specs.Room.{isFull}
+use Rattle.drops.specs.Drop.{dropState, dropLastHop, dropNoPrev, isHeld, lendingRows, deliveryRows, routeRows, table}
+use Rattle.drops.specs.Inside.{dropVerdict, passVerdict, routedOf, verdictOf}
 
 -- an interface holds the address, or none does
-pub held-at : (s : List ℕ) (address i : ℕ) (found : Found) → found ≡ holderOf s address → found ≡ At i → true ≡ isHeld (holderOf s address)
+pub held-at : (s : List ℕ) (address i : ℕ) (found : Holding) → found ≡ holderOf s address → found ≡ At i → true ≡ isHeld (holderOf s address)
 held-at s address i found e f = rw (← e, f)
 
-pub held-not : (s : List ℕ) (address : ℕ) (found : Found) → found ≡ holderOf s address → found ≡ Nothing → false ≡ isHeld (holderOf s address)
+pub held-not : (s : List ℕ) (address : ℕ) (found : Holding) → found ≡ holderOf s address → found ≡ Nowhere → false ≡ isHeld (holderOf s address)
 held-not s address found e f = rw (← e, f)
 
--- only a Query is looked for in the recent list
-pub seen-no-query : (h : Header) (x : Bool) → (h .kind ≡ 1 → ⊥) → false ≡ (isQuery h && x)
-seen-no-query h x no-query = rw (ne-eqb (h .kind) 1 no-query)
+-- the number of interfaces that the check told
+pub interfaces-told : (s : List ℕ) (l : Layout) → l ≡ layoutOf s → l .interfaces ≡ layoutOf s .interfaces
+interfaces-told s l e = ap (λ (x : Layout). x .interfaces) e
 
-pub seen-query : (h : Header) (x y : Bool) → h .kind ≡ 1 → y ≡ x → y ≡ (isQuery h && x)
-seen-query h x y query e = rw (eq-eqb (h .kind) 1 query) e
+-- only a Query is looked for in the recent list
+pub seen-no-query : (h : Header) (x : Bool) → (h .kind ≡ query → ⊥) → false ≡ (isQuery h && x)
+seen-no-query h x no-query = rw (ne-eqb (h .kind) query no-query)
+
+pub seen-query : (h : Header) (x y : Bool) → h .kind ≡ query → y ≡ x → y ≡ (isQuery h && x)
+seen-query h x y is-query e = rw (eq-eqb (h .kind) query is-query) e
 
 -- rows 18 and 19
-module _ (proper : Bool) (h : Header) (blocks size destination : ℕ) (x : Bool) (told : x ≡ linkScoped destination) where
-  pub row-18 : (eqb (h .kind) 1 && x && not proper) ≡ true → 18 ≡ routeRow proper h blocks size destination
-  unfolding routeRow
+module _ (proper : Bool) (h : Header) (blocks destination : ℕ) (full x : Bool) (told : x ≡ linkScoped destination) where
+  pub row-18 : (eqb (h .kind) query && x && not proper) ≡ true → dropLastHop ≡ firstOf (routeRows proper h blocks full destination)
+  unfolding routeRows byFirst
   row-18 e = rw (← told, e)
 
-  module _ (not-18 : (eqb (h .kind) 1 && x && not proper) ≡ false) where
-    pub row-19 : (ltb 1472 (size + 52) && eqb blocks 0) ≡ true → 19 ≡ routeRow proper h blocks size destination
-    unfolding routeRow
+  module _ (not-18 : (eqb (h .kind) query && x && not proper) ≡ false) where
+    pub row-19 : (full && eqb blocks 0) ≡ true → dropNoPrev ≡ firstOf (routeRows proper h blocks full destination)
+    unfolding routeRows byFirst
     row-19 e = rw (← told, not-18, e)
 
-    pub row-none : (ltb 1472 (size + 52) && eqb blocks 0) ≡ false → 0 ≡ routeRow proper h blocks size destination
-    unfolding routeRow
+    pub row-none : (full && eqb blocks 0) ≡ false → 0 ≡ firstOf (routeRows proper h blocks full destination)
+    unfolding routeRows byFirst
     row-none e = rw (← told, not-18, e)
 
 -- rows 14 to 19
-module _ (size : ℕ) (h : Header) (b : Blocks) (destination ttl : ℕ) (s r : List ℕ) (n : ℕ) (delivery : n ≡ deliveryRow s r h (b .count) destination ttl) where
-  pub routed-dropped : (v : Verdict) → (n ≡ 0 → ⊥) → v ≡ dropped n → v ≡ routedOf size h b destination ttl s r
+module _ (full : Bool) (h : Header) (b : Blocks) (destination ttl : ℕ) (s r : List ℕ) (n : ℕ)
+    (delivery : n ≡ firstOf (deliveryRows s r h (b .count) destination ttl)) where
+  abbrev came : List Row
+  came = deliveryRows s r h (b .count) destination ttl
+
+  abbrev late : List Row
+  late = routeRows (lastHopFor s h) h (b .count) full destination
+
+  pub routed-dropped : (v : Verdict) → (n ≡ 0 → ⊥) → v ≡ dropVerdict n → v ≡ routedOf full h b destination ttl s r
   unfolding routedOf
-  routed-dropped v some e = e ∙ rw (← delivery, ne-eqb n 0 some)
+  routed-dropped v some e = e ∙ sym (given-by dropVerdict (passVerdict h b s) came late n delivery some)
 
   module _ (none : n ≡ 0) (c : Chosen) (chosen : c ≡ whichRoute (routesOf s) (h .source) (h .group)) (p : Bool)
-      (hop : p ≡ properLastHop (interfaceOf s) (layoutOf s .interfaces) c (h .client)) (k : ℕ) (row : k ≡ routeRow p h (b .count) size destination) where
+      (hop : p ≡ properLastHop (interfaceOf s) (layoutOf s .interfaces) c (h .client)) (k : ℕ)
+      (row : k ≡ firstOf (routeRows p h (b .count) full destination)) where
     is-route : c ≡ routeFor s h
     unfolding routeFor
     is-route = chosen
@@ -75,62 +93,66 @@ module _ (size : ℕ) (h : Header) (b : Blocks) (destination ttl : ℕ) (s r : L
     unfolding lastHopFor
     is-hop = hop ∙ ap (λ (w : Chosen). properLastHop (interfaceOf s) (layoutOf s .interfaces) w (h .client)) is-route
 
-    pub routed-late : (v : Verdict) → (k ≡ 0 → ⊥) → v ≡ dropped k → v ≡ routedOf size h b destination ttl s r
-    unfolding routedOf
-    routed-late v some e = e ∙ rw (← delivery, eq-eqb n 0 none, ← is-hop, ← row, ne-eqb k 0 some)
+    late-row : k ≡ firstOf late
+    late-row = row ∙ ap (λ (x : Bool). firstOf (routeRows x h (b .count) full destination)) is-hop
 
-    pub routed-taken : k ≡ 0 → record { number = 0; header = h; blocks = b; chosen = c; proper = p } ≡ routedOf size h b destination ttl s r
-    unfolding routedOf taken
-    routed-taken z = rw (← delivery, eq-eqb n 0 none, ← is-hop, ← row, eq-eqb k 0 z, ← is-route)
+    not-delivery : routedOf full h b destination ttl s r ≡ byFirst dropVerdict (passVerdict h b s) late
+    unfolding routedOf deliveryRows
+    not-delivery = none-by dropVerdict (passVerdict h b s) came late n delivery refl none
 
--- the first number of two, and what follows where both are 0
-or-dropped : (n k : ℕ) (v : Verdict) → orDropped (orElse n k) v ≡ orDropped n (orDropped k v)
-or-dropped n k v = by-flag (eqb n 0) refl where
-  by-flag : (t : Bool) → eqb n 0 ≡ t → orDropped (orElse n k) v ≡ orDropped n (orDropped k v)
-  by-flag true e = rw e
-  by-flag false e = rw (e, e)
+    pub routed-late : (v : Verdict) → (k ≡ 0 → ⊥) → v ≡ dropVerdict k → v ≡ routedOf full h b destination ttl s r
+    routed-late v some e = e ∙ sym (not-delivery ∙ given-alone dropVerdict (passVerdict h b s) late k late-row some)
+
+    pub routed-taken : k ≡ 0 → record { number = 0; header = h; blocks = b; chosen = c; proper = p } ≡ routedOf full h b destination ttl s r
+    unfolding passVerdict routeRows
+    routed-taken z = rw (is-hop, is-route) (sym (not-delivery ∙ none-alone dropVerdict (passVerdict h b s) late k late-row refl z))
 
 -- all rows
 module _ (m : List ℕ) (destination receiving ttl : ℕ) (s r : List ℕ) (output note : ℕ) where
-  grouped : verdictOf (arrival m destination receiving ttl) s r output note
-      ≡ orDropped (lendingRow output note r (layoutOf s) receiving)
-      (orDropped (numberOf m) (routedOf (length m) (headerOf m) (blocksSeen m) destination ttl s r))
-  unfolding verdictOf dropOf routedOf blocksSeen
-  grouped =
-      let h = headerOf m in
-      let a = lendingRow output note r (layoutOf s) receiving in
-      let b = numberOf m in
-      let c = deliveryRow s r h (standardCount m) destination ttl in
-      let d = routeRow (lastHopFor s h) h (standardCount m) (length m) destination in
-      let t = taken h (blocksSeen m) s in
-      or-dropped a (orElse b (orElse c d)) t
-      ∙ ap (orDropped a) (or-dropped b (orElse c d) t ∙ ap (orDropped b) (or-dropped c d t))
+  abbrev verdict : Verdict
+  verdict = verdictOf (arrival m destination receiving ttl) s r output note
 
-  module _ (l : Layout) (layout : l ≡ layoutOf s) (n : ℕ) (lending : n ≡ lendingRow output note r l receiving) where
-    pub judged-lending : (v : Verdict) → (n ≡ 0 → ⊥) → v ≡ dropped n → v ≡ verdictOf (arrival m destination receiving ttl) s r output note
-    judged-lending v some e = e ∙ rw (grouped, ← layout, ← lending, ne-eqb n 0 some)
+  abbrev pass : Verdict
+  pass = passVerdict (headerOf m) (blocksSeen m) s
+
+  abbrev lent : List Row
+  lent = lendingRows output note r (layoutOf s) receiving
+
+  -- from row 14 on
+  abbrev last : List Row
+  last =
+      deliveryRows s r (headerOf m) (standardCount m) destination ttl
+      ++ routeRows (lastHopFor s (headerOf m)) (headerOf m) (standardCount m) (isFull m) destination
+
+  module _ (l : Layout) (layout : l ≡ layoutOf s) (n : ℕ) (lending : n ≡ firstOf (lendingRows output note r l receiving)) where
+    lending-row : n ≡ firstOf lent
+    lending-row = rw (← layout) lending
+
+    pub judged-lending : (v : Verdict) → (n ≡ 0 → ⊥) → v ≡ dropVerdict n → v ≡ verdict
+    unfolding verdictOf table
+    judged-lending v some e = e ∙ sym (given-by dropVerdict pass lent (messageRows m ++ last) n lending-row some)
 
     module _ (none : n ≡ 0) (k : Checked) (checked : k ≡ checkOf m) where
-      pub judged-message : (v : Verdict) → (k .number ≡ 0 → ⊥) → v ≡ dropped (k .number) → v ≡ verdictOf (arrival m destination receiving ttl) s r output note
-      judged-message v some e =
-          e ∙ rw (grouped, ← layout, ← lending, eq-eqb n 0 none, ← check-number m k checked, ne-eqb (k .number) 0 some)
+      not-lending : verdict ≡ byFirst dropVerdict pass (messageRows m ++ last)
+      unfolding verdictOf table lendingRows
+      not-lending = none-by dropVerdict pass lent (messageRows m ++ last) n lending-row refl none
 
-      pub judged-routed : (v : Verdict) → k .number ≡ 0 → v ≡ routedOf (length m) (k .header) (k .blocks) destination ttl s r
-          → v ≡ verdictOf (arrival m destination receiving ttl) s r output note
-      unfolding accepted
+      pub judged-message : (v : Verdict) → (k .number ≡ 0 → ⊥) → v ≡ dropVerdict (k .number) → v ≡ verdict
+      judged-message v some e =
+          e ∙ sym (not-lending ∙ given-by dropVerdict pass (messageRows m) last (k .number) (check-number m k checked) some)
+
+      pub judged-routed : (v : Verdict) → k .number ≡ 0 → v ≡ routedOf (isFull m) (k .header) (k .blocks) destination ttl s r → v ≡ verdict
+      unfolding routedOf blocksSeen messageRows headerRows acceptedMessage
       judged-routed v z e =
           let as-is = accepts-as m k checked z in
-          let header = ap (λ (x : Checked). x .header) as-is in
-          let blocks = ap (λ (x : Checked). x .blocks) as-is in
+          let header : k .header ≡ headerOf m = ap (λ (x : Checked). x .header) as-is in
+          let blocks : k .blocks ≡ blocksSeen m = ap (λ (x : Checked). x .blocks) as-is in
           e
-          ∙ rw (header, blocks, grouped, ← layout, ← lending, eq-eqb n 0 none, ← check-number m k checked, eq-eqb (k .number) 0 z)
+          ∙ rw (header, blocks) (sym (not-lending ∙ none-by dropVerdict pass (messageRows m) last (k .number) (check-number m k checked) refl z))
 
-      pub judged-size : k .number ≡ 0 → length m ≤ 1472
-      judged-size z = check-accepts m k checked z .high
+      pub judged-fits : k .number ≡ 0 → length m + standardSize < 18446744073709551616
+      judged-fits z = omega (arith, check-accepts m k checked z .high)
 
     pub judged-formed : n ≡ 0 → Formed r
-    unfolding lendingRow
-    judged-formed z =
-        let room = passed (ltb output 1472) 0 _ (sym lending ∙ z) in
-        let record-room = passed (ltb note noteSize) 0 _ (room .1) in
-        formed r (not-false (wellFormed r) (passed (not (wellFormed r)) 1 _ (record-room .1) .0))
+    unfolding lendingRows
+    judged-formed z = formed r (not-false (wellFormed r) (none-at lent (zero-none lent refl (sym lending-row ∙ z)) dropState))

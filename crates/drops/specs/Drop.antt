@@ -1,74 +1,105 @@
--- The drop table (document 01, "Drop numbers"), row by row in the order tried. 0 is no drop.
-use Prim.Native.Nat.{ℕ, _+_}
-use mathlib.Core.Bool.{Bool, true, false, not, cond, _&&_, _||_}
-use mathlib.Core.List.{List}
+-- The drop table (document 01, "Drop numbers"): one list of rows in the order tried, of which the first that applies drops what
+-- arrives.
+use Prim.Native.Nat.{ℕ}
+use mathlib.Core.Bool.{Bool, true, false, not, _&&_, _||_}
+use mathlib.Core.List.{List, [], _∷_, _++_}
 use lib.Dec.{leb, ltb, eqb}
-use lib.ListN.{length}
+use Rattle.rows.specs.Rows.{Row, row, firstOf}
 use Rattle.wire.specs.Addresses.{linkScoped}
 use Rattle.recent.specs.Layout.{wellFormed}
 use Rattle.recent.specs.Entries.{seenIn}
 use Rattle.sheet.specs.declared.layout.Layout.{Layout}
-use Rattle.sheet.specs.declared.tables.Found.{Found}
-use Rattle.sheet.specs.declared.tables.Found.the-variants.{At, Nothing}
+use Rattle.sheet.specs.declared.tables.Holding.{Holding}
+use Rattle.sheet.specs.declared.tables.Holding.the-variants.{At, Nowhere}
 use Rattle.sheet.specs.Sheet.{layoutOf}
 use Rattle.sheet.specs.Tables.{holderOf}
 use Rattle.message.specs.declared.Header.{Header}
-use Rattle.message.specs.Format.{most, standardSize}
+use Rattle.message.specs.Format.{most, noteSize}
 use Rattle.message.specs.Header.{headerOf}
 use Rattle.message.specs.Blocks.{standardCount}
-use Rattle.message.specs.Check.{numberOf}
+use Rattle.message.specs.Room.{isFull, hopsUsed}
+use Rattle.message.specs.Check.{messageRows}
 use Rattle.drops.specs.Arrival.{Arrival, isQuery, isRequest, lastHopFor}
 
--- bytes of an answer record
-abbrev pub noteSize : ℕ
-noteSize = 16
+-- the numbers, by their names in the table; 5 to 13 are those of a message by itself
+abbrev pub dropRoom : ℕ
+dropRoom = 1
+
+abbrev pub dropState : ℕ
+dropState = 2
+
+abbrev pub dropSheet : ℕ
+dropSheet = 3
+
+abbrev pub dropIface : ℕ
+dropIface = 4
+
+abbrev pub dropDest : ℕ
+dropDest = 14
+
+abbrev pub dropNear : ℕ
+dropNear = 15
+
+abbrev pub dropCount : ℕ
+dropCount = 16
+
+abbrev pub dropSeen : ℕ
+dropSeen = 17
+
+abbrev pub dropLastHop : ℕ
+dropLastHop = 18
+
+abbrev pub dropNoPrev : ℕ
+dropNoPrev = 19
+
+-- the last of them
+abbrev pub lastDrop : ℕ
+lastDrop = dropNoPrev
+
+-- the TTL with which a Request comes from a neighbour
+abbrev pub nearTtl : ℕ
+nearTtl = 255
 
 -- an interface holds the address
-abbrev pub isHeld : Found → Bool
+abbrev pub isHeld : Holding → Bool
 isHeld (At i) = true
-isHeld Nothing = false
+isHeld Nowhere = false
 
--- a message of this size and a block more pass 1472 bytes
-abbrev pub isFull : ℕ → Bool
-isFull size = ltb most (size + standardSize)
+-- what the host lends with the call
+unfoldable pub lendingRows : ℕ → ℕ → List ℕ → Layout → ℕ → List Row
+lendingRows output note recent layout receiving =
+    row dropRoom (ltb output most || ltb note noteSize)
+    ∷ row dropState (not (wellFormed recent))
+    ∷ row dropSheet (not (layout .valid))
+    ∷ row dropIface (leb (layout .interfaces) receiving)
+    ∷ []
 
--- 1 ROOM, 2 STATE, 3 SHEET, 4 IFACE: what the host lends with the call
-unfoldable pub lendingRow : ℕ → ℕ → List ℕ → Layout → ℕ → ℕ
-lendingRow output note recent layout receiving =
-    cond (ltb output most) 1
-    (cond (ltb note noteSize) 1
-    (cond (not (wellFormed recent)) 2
-    (cond (not (layout .valid)) 3
-    (cond (leb (layout .interfaces) receiving) 4
-    0))))
+-- how the message came, with so many of its hops used
+unfoldable pub deliveryRows : List ℕ → List ℕ → Header → ℕ → ℕ → ℕ → List Row
+deliveryRows sheet recent h used destination ttl =
+    row dropDest (not (isHeld (holderOf sheet destination) || linkScoped destination))
+    ∷ row dropNear (isRequest h && not (eqb ttl nearTtl))
+    ∷ row dropCount (isRequest h && leb (h .hops) used)
+    ∷ row dropSeen (isQuery h && seenIn recent (h .client) (h .id))
+    ∷ []
 
--- 14 DEST, 15 NEAR, 16 COUNT, 17 SEEN: how the message came, with so many type 4 blocks
-unfoldable pub deliveryRow : List ℕ → List ℕ → Header → ℕ → ℕ → ℕ → ℕ
-deliveryRow sheet recent h blocks destination ttl =
-    cond (not (isHeld (holderOf sheet destination) || linkScoped destination)) 14
-    (cond (isRequest h && not (eqb ttl 255)) 15
-    (cond (isRequest h && leb (h .hops) blocks) 16
-    (cond (isQuery h && seenIn recent (h .client) (h .id)) 17
-    0)))
+-- whether this is the proper last hop, and where 0x81 could go
+unfoldable pub routeRows : Bool → Header → ℕ → Bool → ℕ → List Row
+routeRows proper h blocks full destination =
+    row dropLastHop (isQuery h && linkScoped destination && not proper)
+    ∷ row dropNoPrev (full && eqb blocks 0)
+    ∷ []
 
--- 18 LASTHOP, 19 NOPREV: whether this is the proper last hop, and where 0x81 could go
-unfoldable pub routeRow : Bool → Header → ℕ → ℕ → ℕ → ℕ
-routeRow proper h blocks size destination =
-    cond (isQuery h && linkScoped destination && not proper) 18
-    (cond (isFull size && eqb blocks 0) 19
-    0)
-
--- the first of two numbers that is not 0
-abbrev pub orElse : ℕ → ℕ → ℕ
-orElse number rest = cond (eqb number 0) rest number
-
--- the first row that applies: 1 to 4, 5 SIZE to 13 BLOCKS of the message itself, 14 to 17, 18 and 19
-unfoldable pub dropOf : Arrival → List ℕ → List ℕ → ℕ → ℕ → ℕ
-dropOf a sheet recent output note =
+-- the whole table: 1 to 4, 5 to 13 on the message by itself, 14 to 17, 18 and 19
+unfoldable pub table : Arrival → List ℕ → List ℕ → ℕ → ℕ → List Row
+table a sheet recent output note =
     let m = a .message in
     let h = headerOf m in
-    let blocks = standardCount m in
-    orElse (lendingRow output note recent (layoutOf sheet) (a .receiving))
-    (orElse (numberOf m)
-    (orElse (deliveryRow sheet recent h blocks (a .destination) (a .ttl))
-    (routeRow (lastHopFor sheet h) h blocks (length m) (a .destination))))
+    lendingRows output note recent (layoutOf sheet) (a .receiving)
+    ++ (messageRows m
+    ++ (deliveryRows sheet recent h (hopsUsed m) (a .destination) (a .ttl)
+    ++ routeRows (lastHopFor sheet h) h (standardCount m) (isFull m) (a .destination)))
+
+-- the number of the first row that applies; 0 is no drop
+abbrev pub dropOf : Arrival → List ℕ → List ℕ → ℕ → ℕ → ℕ
+dropOf a sheet recent output note = firstOf (table a sheet recent output note)

@@ -1,4 +1,4 @@
 -- What arrives at a router, and whether it is dropped (document 01, "Drop numbers").
 pub mod Arrival
 pub mod Drop
-pub mod Verdict
+pub mod Inside

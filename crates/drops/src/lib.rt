@@ -5,15 +5,39 @@ use route::Chosen;
 use sheet::Layout;
 ghost use mathlib.Core.Path.{_≡_};
 ghost use mathlib.Core.Bool.{true, _&&_, _||_};
-ghost use Prim.Native.Nat.{_≤_};
 ghost use Rattle.wire.specs.Addresses.{linkScoped};
-ghost use Rattle.recent.specs.Layout.{Formed};
+ghost use Rattle.recent.specs.Inside.{Formed};
 ghost use Rattle.recent.specs.Entries.{seenIn};
 ghost use Rattle.sheet.specs.Sheet.{layoutOf};
 ghost use Rattle.sheet.specs.Tables.{holderOf};
 ghost use Rattle.drops.specs.Arrival.{arrival, isQuery};
-ghost use Rattle.drops.specs.Drop.{isHeld, lendingRow, deliveryRow, routeRow};
-ghost use Rattle.drops.specs.Verdict.{dropped, routedOf, verdictOf};
+ghost use Rattle.rows.specs.Rows.{firstOf};
+ghost use Rattle.drops.specs.Drop.{isHeld, lendingRows, deliveryRows, routeRows};
+ghost use Rattle.drops.specs.Inside.{dropVerdict, routedOf, verdictOf};
+
+// The TTL with which a Request comes from a neighbour.
+pub const NEAR_TTL: u32 = 255;
+
+// The drop numbers; 5 to 13 are those of a message by itself.
+pub const DROP_ROOM: u32 = 1;
+
+const DROP_STATE: u32 = 2;
+
+const DROP_SHEET: u32 = 3;
+
+const DROP_IFACE: u32 = 4;
+
+const DROP_DEST: u32 = 14;
+
+const DROP_NEAR: u32 = 15;
+
+const DROP_COUNT: u32 = 16;
+
+const DROP_SEEN: u32 = 17;
+
+const DROP_LASTHOP: u32 = 18;
+
+const DROP_NOPREV: u32 = 19;
 
 // The drop number, or 0 and what the answer needs: the header, the blocks, the route, and whether this is the proper last hop.
 pub struct Verdict {
@@ -26,44 +50,41 @@ pub struct Verdict {
 
 // Rows 1 to 4.
 fn lending_row(output: usize, note: usize, recent: &[u8], layout: Layout, receiving: u32) -> u32
-    ensures { λ r. ⌜ r ≡ lendingRow output note (now (recent .entry)) layout receiving ⌝ }
+    ensures { λ r. ⌜ r ≡ firstOf (lendingRows output note (now (recent .entry)) layout receiving) ⌝ }
 {
-    if output < 1472 {
-        return 1;
-    }
-    if note < 16 {
-        return 1;
+    if (output < message::MOST) | (note < message::NOTE_SIZE) {
+        return DROP_ROOM;
     }
     if !recent::check(recent) {
-        return 2;
+        return DROP_STATE;
     }
     if !layout.valid {
-        return 3;
+        return DROP_SHEET;
     }
     if layout.interfaces <= receiving as usize {
-        return 4;
+        return DROP_IFACE;
     }
     0
 }
 
 // Whether an interface of a valid sheet holds an address.
-fn is_held(sheet: &[u8], layout: Layout, address: u32) -> bool
-    requires { ⌜ layout ≡ layoutOf (now sheet) ⌝ }
+fn is_held(sheet: &[u8], interfaces: usize, address: u32) -> bool
+    requires { ⌜ interfaces ≡ layoutOf (now sheet) .interfaces ⌝ }
     ensures { λ r. ⌜ r ≡ isHeld (holderOf (now (sheet .entry)) address) ⌝ }
 {
-    let found = sheet::holder(sheet, layout, address);
+    let found = sheet::holder(sheet, interfaces, address);
     match found {
-        sheet::Found::At(_) => true,
-        sheet::Found::Nothing => false,
+        sheet::Holding::At(_) => true,
+        sheet::Holding::Nowhere => false,
     }
 }
 
 // DEST does not apply: the destination is an interface address here, or in 224.0.0.0/24.
-fn is_delivered(sheet: &[u8], layout: Layout, destination: u32) -> bool
-    requires { ⌜ layout ≡ layoutOf (now sheet) ⌝ }
+fn is_delivered(sheet: &[u8], interfaces: usize, destination: u32) -> bool
+    requires { ⌜ interfaces ≡ layoutOf (now sheet) .interfaces ⌝ }
     ensures { λ r. ⌜ r ≡ (isHeld (holderOf (now (sheet .entry)) destination) || linkScoped destination) ⌝ }
 {
-    is_held(sheet, layout, destination) | wire::link_scoped(destination)
+    is_held(sheet, interfaces, destination) | wire::link_scoped(destination)
 }
 
 // A Query whose client and id are in a well-formed recent list.
@@ -71,7 +92,7 @@ fn is_seen(recent: &[u8], h: Header) -> bool
     requires { ⌜ Formed (now recent) ⌝ }
     ensures { λ r. ⌜ r ≡ (isQuery h && seenIn (now (recent .entry)) (h .client) (h .id)) ⌝ }
 {
-    if h.kind != 1 {
+    if h.kind != message::QUERY {
         return false;
     }
     recent::seen(recent, h.client, h.id)
@@ -83,45 +104,44 @@ fn delivery_row(
     layout: Layout,
     recent: &[u8],
     h: Header,
-    blocks: usize,
+    used: usize,
     destination: u32,
     ttl: u32,
 ) -> u32
     requires { ⌜ layout ≡ layoutOf (now sheet) ⌝ }
     requires { ⌜ Formed (now recent) ⌝ }
-    ensures { λ r. ⌜ r ≡ deliveryRow (now (sheet .entry)) (now (recent .entry)) h blocks destination ttl ⌝ }
+    ensures { λ r. ⌜ r ≡ firstOf (deliveryRows (now (sheet .entry)) (now (recent .entry)) h used destination ttl) ⌝ }
 {
-    if !is_delivered(sheet, layout, destination) {
-        return 14;
+    if !is_delivered(sheet, layout.interfaces, destination) {
+        return DROP_DEST;
     }
-    if (h.kind == 2) & (ttl != 255) {
-        return 15;
+    if (h.kind == message::REQUEST) & (ttl != NEAR_TTL) {
+        return DROP_NEAR;
     }
-    if (h.kind == 2) & (h.hops as usize <= blocks) {
-        return 16;
+    if (h.kind == message::REQUEST) & (h.hops as usize <= used) {
+        return DROP_COUNT;
     }
     if is_seen(recent, h) {
-        return 17;
+        return DROP_SEEN;
     }
     0
 }
 
 // Rows 18 and 19.
-fn route_row(proper: bool, h: Header, blocks: usize, size: usize, destination: u32) -> u32
-    requires { ⌜ size ≤ 1472 ⌝ }
-    ensures { λ r. ⌜ r ≡ routeRow proper h blocks size destination ⌝ }
+fn route_row(proper: bool, h: Header, blocks: usize, full: bool, destination: u32) -> u32
+    ensures { λ r. ⌜ r ≡ firstOf (routeRows proper h blocks full destination) ⌝ }
 {
-    if (h.kind == 1) & wire::link_scoped(destination) & !proper {
-        return 18;
+    if (h.kind == message::QUERY) & wire::link_scoped(destination) & !proper {
+        return DROP_LASTHOP;
     }
-    if (1472 < size + 52) & (blocks == 0) {
-        return 19;
+    if full & (blocks == 0) {
+        return DROP_NOPREV;
     }
     0
 }
 
 fn dropped(number: u32) -> Verdict
-    ensures { λ v. ⌜ v ≡ dropped number ⌝ }
+    ensures { λ v. ⌜ v ≡ dropVerdict number ⌝ }
 {
     Verdict {
         number,
@@ -147,7 +167,7 @@ fn dropped(number: u32) -> Verdict
 
 // Rows 14 to 19, where the sheet, the recent list and the message itself are right.
 fn routed(
-    size: usize,
+    full: bool,
     h: Header,
     b: Blocks,
     destination: u32,
@@ -158,8 +178,7 @@ fn routed(
 ) -> Verdict
     requires { ⌜ layout ≡ layoutOf (now sheet) ⌝ }
     requires { ⌜ Formed (now recent) ⌝ }
-    requires { ⌜ size ≤ 1472 ⌝ }
-    ensures { λ v. ⌜ v ≡ routedOf size h b destination ttl (now (sheet .entry)) (now (recent .entry)) ⌝ }
+    ensures { λ v. ⌜ v ≡ routedOf full h b destination ttl (now (sheet .entry)) (now (recent .entry)) ⌝ }
 {
     let number = delivery_row(sheet, layout, recent, h, b.count, destination, ttl);
     if number != 0 {
@@ -167,7 +186,7 @@ fn routed(
     }
     let chosen = route::choose(sheet, layout, h.source, h.group);
     let proper = route::last_hop(sheet, layout, chosen, h.client);
-    let number = route_row(proper, h, b.count, size, destination);
+    let number = route_row(proper, h, b.count, full, destination);
     if number != 0 {
         return dropped(number);
     }
@@ -204,5 +223,6 @@ pub fn judge(
     }
     let h = m.header;
     let b = m.blocks;
-    routed(message.len(), h, b, destination, ttl, sheet, layout, recent)
+    let full = message::MOST < message.len() + message::STANDARD_SIZE;
+    routed(full, h, b, destination, ttl, sheet, layout, recent)
 }

@@ -1,11 +1,11 @@
--- Two outcomes that meet the step's promise are equal: the promise fixes the answer and every lent byte.
-use Prim.Native.Nat.{ℕ}
-use mathlib.Core.List.{List}
+-- Two outcomes that meet what the step ensures are equal: the answer and every lent byte.
 use mathlib.Core.Path.{_≡_}
-use Rattle.wire.proofs.Determined.{both-are}
-use Rattle.drops.specs.Arrival.{Arrival}
-use Rattle.engine.specs.Step.{Outcome, StepMeets}
+use denote.Ref.{now}
+use Rattle.wire.proofs.Laws.{both-are}
+use Rattle.engine.specs.Step.{outcome}
+use Rattle.engine.proofs.step.Reads as step
 
-pub step-determined : (a : Arrival) (time : ℕ) (sheet recent output note : List ℕ) (x y : Outcome)
-    → StepMeets a time sheet recent output note x → StepMeets a time sheet recent output note y → x ≡ y
-step-determined a time sheet recent output note x y = both-are
+pub step-determined : (κs : _) (a : _) (x y : _) (e f : _) → step.Post κs a x e → step.Post κs a y f
+    → outcome x (now (e .1 .1 .1 .1 .1 .1 .0)) (now (e .1 .1 .1 .1 .1 .1 .1 .0)) (now (e .1 .1 .1 .1 .1 .1 .1 .1 .0))
+    ≡ outcome y (now (f .1 .1 .1 .1 .1 .1 .0)) (now (f .1 .1 .1 .1 .1 .1 .1 .0)) (now (f .1 .1 .1 .1 .1 .1 .1 .1 .0))
+step-determined κs a x y e f = both-are

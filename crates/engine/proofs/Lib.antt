@@ -1,8 +1,9 @@
--- Laws that this crate's proofs and the crates above cite.
-pub mod Rows
-pub mod Writes
-pub mod Steps
-pub mod LawsDrop
-pub mod LawsSent
-pub mod LawsOn
+-- The laws that other crates cite, in one place; and that the promise fixes the outcome.
+pub mod Laws
 pub mod Determined
+-- Where they are proved; and a law for each way out of a function.
+mod Sent
+mod On
+mod Rows
+mod Writes
+mod Steps

@@ -12,7 +12,7 @@ use Rattle.entry.specs.declared.interface.Interface.{Interface}
 use Rattle.entry.specs.declared.route.Route.{Route}
 use Rattle.sheet.specs.Sheet.{layoutOf}
 use Rattle.sheet.specs.Tables.{interfaceOf, prohibitedOf}
-use Rattle.sheet.proofs.Entries.{interface-valid, valid-told}
+use Rattle.sheet.proofs.Laws.{interface-valid, valid-told}
 use Rattle.route.specs.declared.Chosen.{Chosen}
 use Rattle.route.specs.declared.Chosen.the-variants.{Found, Nothing}
 use Rattle.response.specs.declared.Incoming.{Incoming}
@@ -25,11 +25,14 @@ use Rattle.response.specs.Fill.{upstreamOf, blockOf, endsTrace}
 use Rattle.response.specs.Bytes.{noteBytes}
 use Rattle.message.specs.declared.Header.{Header}
 use Rattle.message.specs.Header.{headerOf}
-use Rattle.message.specs.Blocks.{standardCount, lastStandard}
-use Rattle.engine.specs.View.{incomingFor, RouteThere, viewWith}
-use Rattle.engine.specs.Answer.{noteHome, noteOn, home, on, fullMessage, longerMessage, longerAnswer}
-use Rattle.engine.specs.Step.{Written}
-use Rattle.engine.proofs.LawsSent.{longer-length}
+use Rattle.message.specs.Blocks.{lastStandard}
+use Rattle.engine.specs.View.{incomingFor, viewWith}
+use Rattle.engine.specs.Answer.{sentOn, sentHome, mtracePort, noteHome, noteOn, goesHome, goesOn, fullMessage, longerMessage, longerAnswer}
+use Rattle.engine.specs.Inside.{RouteThere, Written}
+use Rattle.message.specs.Format.{query, request, reply, standardSize, codeOffset}
+use Rattle.response.specs.Code.{codeNoSpace}
+use Rattle.message.specs.Room.{hopsUsed}
+use Rattle.engine.proofs.Sent.{longer-length}
 
 -- the incoming interface, by the route chosen
 module _ (s : List ℕ) (chosen : Chosen) where
@@ -51,7 +54,7 @@ module _ (s : List ℕ) (chosen : Chosen) where
 
 -- the record of a Request sent on, by the route chosen
 pub note-found : (chosen : Chosen) (r : Route) (i : Incoming) (n u a : ℕ) → chosen ≡ Found r → u ≡ upstreamOf r → a ≡ addressOf i
-    → record { length = n; destination = u; port = 33435; interface = r .incoming; source = a } ≡ noteOn chosen i n
+    → record { length = n; destination = u; port = mtracePort; interface = r .incoming; source = a } ≡ noteOn chosen i n
 note-found chosen r i n u a found e f = rw (found, e, f)
 
 pub note-none : (chosen : Chosen) (i : Incoming) (n : ℕ) → chosen ≡ Nothing
@@ -66,7 +69,7 @@ valid-here s receiving h = valid-told s ∙ interface-valid s receiving h
 pub view-made : (s : List ℕ) (h : Header) (chosen : Chosen) (proper : Bool) (receiving time : ℕ) (incoming : Incoming) (prohibited : Bool) (here : Interface)
     → incoming ≡ incomingFor s chosen → prohibited ≡ prohibitedOf s → here ≡ interfaceOf s receiving
     → record {
-      query = eqb (h .kind) 1;
+      query = eqb (h .kind) query;
       proper = proper;
       chosen = chosen;
       incoming = incoming;
@@ -82,30 +85,30 @@ view-made s h chosen proper receiving time incoming prohibited here e f g = rw (
 
 -- a message without room
 pub full-sent : (m : List ℕ) (h : Header) (last : ℕ) (here : Interface) (o n o1 n1 : List ℕ) (k : Note) → h ≡ headerOf m → last ≡ lastStandard m
-    → o1 ≡ splice o 0 (set (set m 0 3) (last + 51) 129) → k ≡ noteHome h (length m) (here .address) → n1 ≡ splice n 0 (noteBytes k)
-    → Written (home h (here .address) (fullMessage m)) o n 101 o1 n1
+    → o1 ≡ splice o 0 (set (set m 0 reply) (last + codeOffset) codeNoSpace) → k ≡ noteHome h (length m) (here .address) → n1 ≡ splice n 0 (noteBytes k)
+    → Written (goesHome h (here .address) (fullMessage m)) o n sentHome o1 n1
 full-sent m h last here o n o1 n1 k e f g p q =
     record { says = refl; sends = rw (g, f); notes = rw (q, p) (simp (length-set, length-set)) }
 
 -- a message with room: home, or on
-module _ (m : List ℕ) (v : View) (h : Header) (blocks : ℕ) (header : h ≡ headerOf m) (count : blocks ≡ standardCount m) (b : Block) (block : b ≡ blockOf v) (x : Bool)
-    (told : x ≡ endsTrace v (blocks + 1) (h .hops)) (o n o1 n1 : List ℕ) (k : Note) (noted : n1 ≡ splice n 0 (noteBytes k)) where
-  answer-home : x ≡ true → longerAnswer m v ≡ home (headerOf m) (v .here .address) (longerMessage 3 m (blockOf v))
+module _ (m : List ℕ) (v : View) (h : Header) (used : ℕ) (header : h ≡ headerOf m) (count : used ≡ hopsUsed m) (b : Block) (block : b ≡ blockOf v) (x : Bool)
+    (told : x ≡ endsTrace v (used + 1) (h .hops)) (o n o1 n1 : List ℕ) (k : Note) (noted : n1 ≡ splice n 0 (noteBytes k)) where
+  answer-home : x ≡ true → longerAnswer m v ≡ goesHome (headerOf m) (v .here .address) (longerMessage reply m (blockOf v))
   unfolding longerAnswer
   answer-home e = rw (← count, ← header, ← told, e)
 
-  pub home-sent : x ≡ true → o1 ≡ splice o 0 (longerMessage 3 m b) → k ≡ noteHome h (length m + 52) (v .here .address)
-      → Written (longerAnswer m v) o n 101 o1 n1
+  pub home-sent : x ≡ true → o1 ≡ splice o 0 (longerMessage reply m b) → k ≡ noteHome h (length m + standardSize) (v .here .address)
+      → Written (longerAnswer m v) o n sentHome o1 n1
   home-sent e f g =
       rw (answer-home e)
-      (record { says = refl; sends = rw (f, block); notes = rw (noted, g, header, longer-length 3 m (blockOf v)) })
+      (record { says = refl; sends = rw (f, block); notes = rw (noted, g, header, longer-length reply m (blockOf v)) })
 
-  answer-on : x ≡ false → longerAnswer m v ≡ on v (longerMessage 2 m (blockOf v))
+  answer-on : x ≡ false → longerAnswer m v ≡ goesOn v (longerMessage request m (blockOf v))
   unfolding longerAnswer
   answer-on e = rw (← count, ← header, ← told, e)
 
-  pub on-sent : x ≡ false → o1 ≡ splice o 0 (longerMessage 2 m b) → k ≡ noteOn (v .chosen) (v .incoming) (length m + 52)
-      → Written (longerAnswer m v) o n 100 o1 n1
+  pub on-sent : x ≡ false → o1 ≡ splice o 0 (longerMessage request m b) → k ≡ noteOn (v .chosen) (v .incoming) (length m + standardSize)
+      → Written (longerAnswer m v) o n sentOn o1 n1
   on-sent e f g =
       rw (answer-on e)
-      (record { says = refl; sends = rw (f, block); notes = rw (noted, g, longer-length 2 m (blockOf v)) })
+      (record { says = refl; sends = rw (f, block); notes = rw (noted, g, longer-length request m (blockOf v)) })

@@ -13,6 +13,8 @@ use Rattle.response.specs.declared.Block.{Block}
 use Rattle.response.specs.declared.Note.{Note}
 use Rattle.response.specs.Bytes.{blockBytes, noteBytes}
 use Rattle.message.specs.declared.Header.{Header}
+use Rattle.message.specs.Format.{query, reply, standardSize, codeOffset}
+use Rattle.response.specs.Code.{codeNoSpace}
 use Rattle.engine.specs.Answer.{longerMessage}
 use Rattle.engine.specs.Step.{recentAfter}
 
@@ -21,13 +23,13 @@ set-front : (o xs : List ℕ) (i v : ℕ) → i < length xs → set (splice o 0 
 set-front o xs i v h = rw (splice-front, splice-front) (simp (length-set, set-append-left))
 
 -- the message, its type and one byte more
-pub full-written : (m o o1 : List ℕ) (last : ℕ) → last + 52 ≤ length m → o1 ≡ splice o 0 m
-    → set (set o1 0 3) (last + 51) 129 ≡ splice o 0 (set (set m 0 3) (last + 51) 129)
+pub full-written : (m o o1 : List ℕ) (last : ℕ) → last + standardSize ≤ length m → o1 ≡ splice o 0 m
+    → set (set o1 0 reply) (last + codeOffset) codeNoSpace ≡ splice o 0 (set (set m 0 reply) (last + codeOffset) codeNoSpace)
 full-written m o o1 last h e =
-    rw (e, set-front o m 0 3 (omega arith)) (set-front o (set m 0 3) (last + 51) 129 (simp length-set (omega arith)))
+    rw (e, set-front o m 0 reply (omega arith)) (set-front o (set m 0 reply) (last + codeOffset) codeNoSpace (simp length-set (omega arith)))
 
 -- the message, its type, and a block behind it
-pub longer-written : (m o o1 o2 bytes : List ℕ) (kind : ℕ) (b : Block) → 0 < length m → length m + 52 ≤ length o → bytes ≡ blockBytes b
+pub longer-written : (m o o1 o2 bytes : List ℕ) (kind : ℕ) (b : Block) → 0 < length m → length m + standardSize ≤ length o → bytes ≡ blockBytes b
     → o1 ≡ splice o 0 m → o2 ≡ splice (set o1 0 kind) (length m) bytes → o2 ≡ splice o 0 (longerMessage kind m b)
 unfolding longerMessage
 longer-written m o o1 o2 bytes kind b some room e f g =
@@ -42,10 +44,10 @@ pub note-written : (n : Note) (o o1 bytes : List ℕ) → bytes ≡ noteBytes n 
 note-written n o o1 bytes e f = rw (f, e)
 
 -- a Query is entered, anything else is not
-pub query-entered : (h : Header) (r r1 : List ℕ) → h .kind ≡ 1 → r1 ≡ enteredIn r (h .client) (h .id) → r1 ≡ recentAfter h r
+pub query-entered : (h : Header) (r r1 : List ℕ) → h .kind ≡ query → r1 ≡ enteredIn r (h .client) (h .id) → r1 ≡ recentAfter h r
 unfolding recentAfter
-query-entered h r r1 q e = rw (eq-eqb (h .kind) 1 q) e
+query-entered h r r1 q e = rw (eq-eqb (h .kind) query q) e
 
-pub request-kept : (h : Header) (r : List ℕ) → (h .kind ≡ 1 → ⊥) → r ≡ recentAfter h r
+pub request-kept : (h : Header) (r : List ℕ) → (h .kind ≡ query → ⊥) → r ≡ recentAfter h r
 unfolding recentAfter
-request-kept h r q = rw (ne-eqb (h .kind) 1 q)
+request-kept h r q = rw (ne-eqb (h .kind) query q)

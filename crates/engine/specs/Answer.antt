@@ -11,14 +11,15 @@ use Rattle.response.specs.declared.View.{View}
 use Rattle.response.specs.declared.Block.{Block}
 use Rattle.response.specs.declared.Note.{Note}
 use Rattle.response.specs.View.{addressOf}
+use Rattle.response.specs.Code.{codeNoSpace}
 use Rattle.response.specs.Fill.{upstreamOf, blockOf, endsTrace}
 use Rattle.response.specs.Bytes.{blockBytes}
 use Rattle.message.specs.declared.Header.{Header}
 use Rattle.message.specs.Format.{request, reply, codeOffset}
 use Rattle.message.specs.Header.{headerOf}
-use Rattle.message.specs.Blocks.{standardCount, lastStandard}
+use Rattle.message.specs.Blocks.{lastStandard}
+use Rattle.message.specs.Room.{isFull, hopsUsed}
 use Rattle.drops.specs.Arrival.{Arrival}
-use Rattle.drops.specs.Drop.{isFull}
 use Rattle.engine.specs.View.{viewOf}
 
 -- the answers: 100 is a Request sent on, 101 a Reply
@@ -32,10 +33,6 @@ sentHome = 101
 abbrev pub mtracePort : ℕ
 mtracePort = 33435
 
--- 0x81, NO_SPACE: there was no room for this router's block
-abbrev pub noSpace : ℕ
-noSpace = 129
-
 -- the interface of a Reply: whichever leads there
 abbrev pub anyInterface : ℕ
 anyInterface = 65535
@@ -48,43 +45,43 @@ pub record Sent : Type 0 where
 
 -- the record of a Reply: client, client port, 65535, the receiving interface's address
 abbrev pub noteHome : Header → ℕ → ℕ → Note
-noteHome h length source =
-    record { length = length; destination = h .client; port = h .port; interface = anyInterface; source = source }
+noteHome h size source =
+    record { length = size; destination = h .client; port = h .port; interface = anyInterface; source = source }
 
 -- the record of a Request sent on: upstream or 224.0.0.2, 33435, the incoming interface and its address. Without a route nothing is
 -- sent on, so that the first line is met by no input
 abbrev pub noteOn : Chosen → Incoming → ℕ → Note
-noteOn Nothing incoming length = record { length = length; destination = 0; port = 0; interface = 0; source = 0 }
-noteOn (Found r) incoming length =
-    record { length = length; destination = upstreamOf r; port = mtracePort; interface = r .incoming; source = addressOf incoming }
+noteOn Nothing incoming size = record { length = size; destination = 0; port = 0; interface = 0; source = 0 }
+noteOn (Found r) incoming size =
+    record { length = size; destination = upstreamOf r; port = mtracePort; interface = r .incoming; source = addressOf incoming }
 
 -- a message sent home, and one sent on, with its record
-abbrev pub home : Header → ℕ → List ℕ → Sent
-home h source message = record { answer = sentHome; message = message; note = noteHome h (length message) source }
+abbrev pub goesHome : Header → ℕ → List ℕ → Sent
+goesHome h source message = record { answer = sentHome; message = message; note = noteHome h (length message) source }
 
-abbrev pub on : View → List ℕ → Sent
-on v message = record { answer = sentOn; message = message; note = noteOn (v .chosen) (v .incoming) (length message) }
+abbrev pub goesOn : View → List ℕ → Sent
+goesOn v message = record { answer = sentOn; message = message; note = noteOn (v .chosen) (v .incoming) (length message) }
 
 -- 1. there is no room: copy, type 3, code 0x81 in the last type 4 block
 abbrev pub fullMessage : List ℕ → List ℕ
-fullMessage m = set (set m 0 reply) (lastStandard m + codeOffset) noSpace
+fullMessage m = set (set m 0 reply) (lastStandard m + codeOffset) codeNoSpace
 
 -- 2. to 4. the message with its type and this router's block appended
 unfoldable pub longerMessage : ℕ → List ℕ → Block → List ℕ
 longerMessage kind m b = set m 0 kind ++ blockBytes b
 
--- 5. with type 4 blocks as they are now: a Reply home, or the Request on
+-- 5. with one hop more used: a Reply home, or the Request on
 unfoldable pub longerAnswer : List ℕ → View → Sent
 longerAnswer m v =
     let h = headerOf m in
-    let last = home h (v .here .address) (longerMessage reply m (blockOf v)) in
-    let next = on v (longerMessage request m (blockOf v)) in
-    cond (endsTrace v (standardCount m + 1) (h .hops)) last next
+    let last = goesHome h (v .here .address) (longerMessage reply m (blockOf v)) in
+    let next = goesOn v (longerMessage request m (blockOf v)) in
+    cond (endsTrace v (hopsUsed m + 1) (h .hops)) last next
 
 -- what is sent: step 1 where there is no room, else steps 2 to 5
 unfoldable pub sentBy : Arrival → ℕ → List ℕ → Sent
 sentBy a time sheet =
     let m = a .message in
-    let full = home (headerOf m) (interfaceOf sheet (a .receiving) .address) (fullMessage m) in
+    let full = goesHome (headerOf m) (interfaceOf sheet (a .receiving) .address) (fullMessage m) in
     let longer = longerAnswer m (viewOf a time sheet) in
-    cond (isFull (length m)) full longer
+    cond (isFull m) full longer

@@ -2,4 +2,4 @@
 pub mod View
 pub mod Answer
 pub mod Step
-pub mod Ready
+pub mod Inside

@@ -3,15 +3,15 @@ use Prim.Native.Nat.{ℕ}
 use mathlib.Core.Bool.{cond}
 use mathlib.Core.List.{List}
 use mathlib.Core.Path.{_≡_}
-use lib.Dec.{eqb}
 use lib.ListN.{length}
+use Rattle.rows.specs.Rows.{byFirst}
 use Rattle.wire.specs.Parts.{splice}
 use Rattle.recent.specs.Entries.{enteredIn}
 use Rattle.response.specs.Bytes.{noteBytes}
 use Rattle.message.specs.declared.Header.{Header}
 use Rattle.message.specs.Header.{headerOf}
 use Rattle.drops.specs.Arrival.{Arrival, isQuery}
-use Rattle.drops.specs.Drop.{dropOf}
+use Rattle.drops.specs.Drop.{table}
 use Rattle.engine.specs.Answer.{Sent, sentBy}
 
 -- the answer, and the recent list, the output and the answer record as they are left
@@ -28,27 +28,18 @@ outcome answer recent output note = record { answer = answer; recent = recent; o
 unfoldable pub recentAfter : Header → List ℕ → List ℕ
 recentAfter h recent = let entered = enteredIn recent (h .client) (h .id) in cond (isQuery h) entered recent
 
--- what is sent and its record are written over the first bytes; those past them stay
-pub record Written (sent : Sent) (output note : List ℕ) (answer : ℕ) (output′ note′ : List ℕ) : Type 0 where
-  pub says : answer ≡ sent .answer
-  pub sends : output′ ≡ splice output 0 (sent .message)
-  pub notes : note′ ≡ splice note 0 (noteBytes (sent .note))
-
--- an accepted message is answered by what is sent, and a Query is entered
+-- an accepted message is answered by what is sent and its record, over the first bytes of output and record: those past them
+-- stay. A Query is entered
 abbrev pub answeredBy : Sent → Header → List ℕ → List ℕ → List ℕ → Outcome
 answeredBy sent h recent output note =
     outcome (sent .answer) (recentAfter h recent) (splice output 0 (sent .message)) (splice note 0 (noteBytes (sent .note)))
 
--- the outcome where nothing is dropped
-unfoldable pub accepted : Arrival → ℕ → List ℕ → List ℕ → List ℕ → List ℕ → Outcome
-accepted a time sheet recent output note = answeredBy (sentBy a time sheet) (headerOf (a .message)) recent output note
-
--- a drop returns its number and changes nothing lent
+-- where a row of the drop table applies, the first one's number, and nothing lent is changed; else the answer
 unfoldable pub stepOf : Arrival → ℕ → List ℕ → List ℕ → List ℕ → List ℕ → Outcome
 stepOf a time sheet recent output note =
-    let drop = dropOf a sheet recent (length output) (length note) in
-    let taken = accepted a time sheet recent output note in
-    cond (eqb drop 0) taken (outcome drop recent output note)
+    byFirst (λ number. outcome number recent output note)
+    (answeredBy (sentBy a time sheet) (headerOf (a .message)) recent output note)
+    (table a sheet recent (length output) (length note))
 
 -- what the step promises: its outcome is that one
 abbrev pub StepMeets : Arrival → ℕ → List ℕ → List ℕ → List ℕ → List ℕ → Outcome → Type 0

@@ -1,8 +1,7 @@
 -- What the router looks at when it answers.
-use Prim.Native.Nat.{ℕ, _<_}
+use Prim.Native.Nat.{ℕ}
 use mathlib.Core.Bool.{Bool, cond}
 use mathlib.Core.List.{List}
-use mathlib.Core.Path.{_≡_}
 use lib.Dec.{eqb}
 use Rattle.entry.specs.Route.{unknown}
 use Rattle.sheet.specs.Tables.{interfaceOf, prohibitedOf}
@@ -21,11 +20,6 @@ incomingFor sheet Nothing = Unknown
 incomingFor sheet (Found r) =
     let known = Known (interfaceOf sheet (r .incoming)) in
     cond (eqb (r .incoming) unknown) Unknown known
-
--- a route's incoming interface is one of so many, or unknown, as in every valid sheet
-abbrev pub RouteThere : ℕ → Chosen → Type 0
-RouteThere interfaces Nothing = Unit {0}
-RouteThere interfaces (Found r) = (r .incoming ≡ unknown → ⊥) → r .incoming < interfaces
 
 -- what the router looks at, for a header that came in on an interface at a time, with the route for it
 unfoldable pub viewWith : List ℕ → Header → Chosen → Bool → ℕ → ℕ → View

@@ -11,14 +11,26 @@ ghost use mathlib.Core.Path.{_≡_};
 ghost use Prim.Native.Nat.{_+_, _≤_, _<_};
 ghost use lib.ListN.{length, set};
 ghost use Rattle.wire.specs.Parts.{splice};
-ghost use Rattle.recent.specs.Layout.{Formed};
+ghost use Rattle.recent.specs.Inside.{Formed};
 ghost use Rattle.sheet.specs.Sheet.{layoutOf};
+ghost use Rattle.response.specs.Code.{codeNoSpace};
+ghost use Rattle.message.specs.Format.{most, reply, standardSize, codeOffset, noteSize};
 ghost use Rattle.response.specs.Bytes.{noteBytes};
 ghost use Rattle.drops.specs.Arrival.{arrival};
-ghost use Rattle.engine.specs.View.{incomingFor, RouteThere, viewWith};
-ghost use Rattle.engine.specs.Answer.{noteHome, noteOn, home, fullMessage, longerMessage, longerAnswer};
-ghost use Rattle.engine.specs.Ready.{Roomy, Full, Ready, answered};
-ghost use Rattle.engine.specs.Step.{outcome, recentAfter, Written, StepMeets};
+ghost use Rattle.engine.specs.View.{incomingFor, viewWith};
+ghost use Rattle.engine.specs.Answer.{noteHome, noteOn, goesHome, fullMessage, longerMessage, longerAnswer};
+ghost use Rattle.engine.specs.Inside.{RouteThere, Written, WithRoom, WithoutRoom, Ready, answered};
+ghost use Rattle.engine.specs.Step.{outcome, recentAfter, StepMeets};
+
+// The answers: a Request sent on, and a Reply.
+pub const SENT_ON: u32 = 100;
+
+pub const SENT_HOME: u32 = 101;
+
+// The UDP port that routers listen on, and the interface of a Reply.
+const MTRACE_PORT: u16 = 33435;
+
+const ANY_INTERFACE: u16 = 65535;
 
 // The incoming interface that the route chosen names.
 fn incoming_for(sheet: &[u8], chosen: Chosen) -> Incoming
@@ -27,7 +39,7 @@ fn incoming_for(sheet: &[u8], chosen: Chosen) -> Incoming
 {
     match chosen {
         Chosen::Found(r) => {
-            if r.incoming == 65535 {
+            if r.incoming == entry::UNKNOWN {
                 return Incoming::Unknown;
             }
             Incoming::Known(sheet::interface(sheet, r.incoming as usize))
@@ -38,17 +50,17 @@ fn incoming_for(sheet: &[u8], chosen: Chosen) -> Incoming
 
 // No room: the message as a Reply, with 0x81 in its last type 4 block, which begins at `last`.
 fn write_full(message: &[u8], last: usize, output: &mut [u8])
-    requires { ⌜ (last + 52 ≤ length (now message)) × (length (now message) ≤ length (now output)) ⌝ }
-    ensures { λ _. ⌜ now (output .exit) ≡ splice (now (output .entry)) 0 (set (set (now (message .entry)) 0 3) (last + 51) 129) ⌝ }
+    requires { ⌜ (last + standardSize ≤ length (now message)) × (length (now message) ≤ length (now output)) ⌝ }
+    ensures { λ _. ⌜ now (output .exit) ≡ splice (now (output .entry)) 0 (set (set (now (message .entry)) 0 reply) (last + codeOffset) codeNoSpace) ⌝ }
 {
     wire::copy_to(output, 0, message);
-    output[0] = 3;
-    output[last + 51] = 129;
+    output[0] = message::REPLY;
+    output[last + message::CODE_OFFSET] = response::CODE_NO_SPACE;
 }
 
 // The message with its type, and a block behind it.
 fn write_longer(message: &[u8], kind: u8, block: Block, output: &mut [u8])
-    requires { ⌜ (0 < length (now message)) × (length (now message) + 52 ≤ length (now output)) ⌝ }
+    requires { ⌜ (0 < length (now message)) × (length (now message) + standardSize ≤ length (now output)) ⌝ }
     ensures { λ _. ⌜ now (output .exit) ≡ splice (now (output .entry)) 0 (longerMessage kind (now (message .entry)) block) ⌝ }
 {
     let bytes = response::block_bytes(block);
@@ -59,7 +71,7 @@ fn write_longer(message: &[u8], kind: u8, block: Block, output: &mut [u8])
 
 // The answer record.
 fn write_note(n: Note, note: &mut [u8])
-    requires { ⌜ 16 ≤ length (now note) ⌝ }
+    requires { ⌜ noteSize ≤ length (now note) ⌝ }
     ensures { λ _. ⌜ now (note .exit) ≡ splice (now (note .entry)) 0 (noteBytes n) ⌝ }
 {
     let bytes = response::note_bytes(n);
@@ -71,40 +83,40 @@ fn write_recent(h: Header, recent: &mut [u8])
     requires { ⌜ Formed (now recent) ⌝ }
     ensures { λ _. ⌜ now (recent .exit) ≡ recentAfter h (now (recent .entry)) ⌝ }
 {
-    if h.kind == 1 {
+    if h.kind == message::QUERY {
         recent::enter(recent, h.client, h.id);
     }
 }
 
 // The record of a Reply.
-fn note_home(h: Header, length: usize, source: u32) -> Note
-    requires { ⌜ length ≤ 1472 ⌝ }
-    ensures { λ n. ⌜ n ≡ noteHome h length source ⌝ }
+fn note_home(h: Header, size: usize, source: u32) -> Note
+    requires { ⌜ size ≤ most ⌝ }
+    ensures { λ n. ⌜ n ≡ noteHome h size source ⌝ }
 {
     Note {
-        length: length as u16,
+        length: size as u16,
         destination: h.client,
         port: h.port,
-        interface: 65535,
+        interface: ANY_INTERFACE,
         source,
     }
 }
 
 // The record of a Request sent on.
-fn note_on(chosen: Chosen, incoming: Incoming, length: usize) -> Note
-    requires { ⌜ length ≤ 1472 ⌝ }
-    ensures { λ n. ⌜ n ≡ noteOn chosen incoming length ⌝ }
+fn note_on(chosen: Chosen, incoming: Incoming, size: usize) -> Note
+    requires { ⌜ size ≤ most ⌝ }
+    ensures { λ n. ⌜ n ≡ noteOn chosen incoming size ⌝ }
 {
     match chosen {
         Chosen::Found(r) => Note {
-            length: length as u16,
+            length: size as u16,
             destination: response::upstream(r),
-            port: 33435,
+            port: MTRACE_PORT,
             interface: r.incoming,
             source: response::address_of(incoming),
         },
         Chosen::Nothing => Note {
-            length: length as u16,
+            length: size as u16,
             destination: 0,
             port: 0,
             interface: 0,
@@ -127,7 +139,7 @@ fn view_with(
     ensures { λ v. ⌜ v ≡ viewWith (now (sheet .entry)) h chosen proper receiving time ⌝ }
 {
     View {
-        query: h.kind == 1,
+        query: h.kind == message::QUERY,
         proper,
         chosen,
         incoming: incoming_for(sheet, chosen),
@@ -143,27 +155,27 @@ fn view_with(
 fn send_longer(
     message: &[u8],
     h: Header,
-    blocks: usize,
+    used: usize,
     v: View,
     output: &mut [u8],
     note: &mut [u8],
 ) -> u32
-    requires { ⌜ Roomy (now message) h blocks v (length (now output)) (length (now note)) ⌝ }
+    requires { ⌜ WithRoom (now message) h used v (length (now output)) (length (now note)) ⌝ }
     ensures { λ r. ⌜ Written (longerAnswer (now (message .entry)) v) (now (output .entry)) (now (note .entry)) r (now (output .exit)) (now (note .exit)) ⌝ }
 {
     let block = response::block_of(v);
-    let length = message.len() + 52;
-    if response::ends_trace(v, blocks as u32 + 1, h.hops as u32) {
+    let size = message.len() + message::STANDARD_SIZE;
+    if response::ends_trace(v, used as u32 + 1, h.hops as u32) {
         let here = v.here;
-        write_longer(message, 3, block, output);
-        write_note(note_home(h, length, here.address), note);
-        return 101;
+        write_longer(message, message::REPLY, block, output);
+        write_note(note_home(h, size, here.address), note);
+        return SENT_HOME;
     }
     let chosen = v.chosen;
     let incoming = v.incoming;
-    write_longer(message, 2, block, output);
-    write_note(note_on(chosen, incoming, length), note);
-    100
+    write_longer(message, message::REQUEST, block, output);
+    write_note(note_on(chosen, incoming, size), note);
+    SENT_ON
 }
 
 // There is no room: the message goes home with 0x81.
@@ -175,12 +187,12 @@ fn send_full(
     output: &mut [u8],
     note: &mut [u8],
 ) -> u32
-    requires { ⌜ Full (now message) h last (length (now output)) (length (now note)) ⌝ }
-    ensures { λ r. ⌜ Written (home h (here .address) (fullMessage (now (message .entry)))) (now (output .entry)) (now (note .entry)) r (now (output .exit)) (now (note .exit)) ⌝ }
+    requires { ⌜ WithoutRoom (now message) h last (length (now output)) (length (now note)) ⌝ }
+    ensures { λ r. ⌜ Written (goesHome h (here .address) (fullMessage (now (message .entry)))) (now (output .entry)) (now (note .entry)) r (now (output .exit)) (now (note .exit)) ⌝ }
 {
     write_full(message, last, output);
     write_note(note_home(h, message.len(), here.address), note);
-    101
+    SENT_HOME
 }
 
 // Answers a message that was accepted, and enters a Query.
@@ -201,7 +213,7 @@ fn answer(
     let h = v.header;
     let blocks = v.blocks;
     write_recent(h, recent);
-    if 1472 < message.len() + 52 {
+    if message::MOST < message.len() + message::STANDARD_SIZE {
         let here = sheet::interface(sheet, receiving as usize);
         return send_full(message, h, blocks.last, here, output, note);
     }

@@ -1,30 +1,47 @@
--- Two answers that meet a function's promise are equal. Each promise here is an equation.
-use Prim.Native.Nat.{ℕ}
-use mathlib.Core.Bool.{Bool}
-use mathlib.Core.List.{List}
+-- Two answers that meet a function's promise are equal: what each ensures is an equation.
 use mathlib.Core.Path.{_≡_}
-use Rattle.wire.proofs.Determined.{both-are}
-use Rattle.entry.specs.declared.interface.Interface.{Interface}
-use Rattle.entry.specs.declared.route.Route.{Route}
-use Rattle.entry.specs.Prefix.{samePrefix, zeroPast}
-use Rattle.entry.specs.Interface.{interfaceAt, interfaceOk}
-use Rattle.entry.specs.Route.{routeAt, routeOk}
+use Rattle.wire.proofs.Laws.{both-are}
+use Rattle.entry.proofs.interface.interface_at.Reads as interface-at
+use Rattle.entry.proofs.interface.is_multicast.Reads as is-multicast
+use Rattle.entry.proofs.interface.is_boundary.Reads as is-boundary
+use Rattle.entry.proofs.interface.interface_ok.Reads as interface-ok
+use Rattle.entry.proofs.prefix.same_prefix.Reads as same-prefix
+use Rattle.entry.proofs.prefix.zero_past.Reads as zero-past
+use Rattle.entry.proofs.route.route_at.Reads as route-at
+use Rattle.entry.proofs.route.is_rp.Reads as is-rp
+use Rattle.entry.proofs.route.prune_sent.Reads as prune-sent
+use Rattle.entry.proofs.route.in_map.Reads as in-map
+use Rattle.entry.proofs.route.route_ok.Reads as route-ok
 
-pub interface-at-determined : (s : List ℕ) (at : ℕ) (a b : Interface) → a ≡ interfaceAt s at → b ≡ interfaceAt s at → a ≡ b
-interface-at-determined s at a b = both-are
+pub interface-at-determined : (κs : _) (a : _) (x y : _) (e f : _) → interface-at.Post κs a x e → interface-at.Post κs a y f → x ≡ y
+interface-at-determined κs a x y e f p q = both-are p q
 
-pub route-at-determined : (s : List ℕ) (at : ℕ) (a b : Route) → a ≡ routeAt s at → b ≡ routeAt s at → a ≡ b
-route-at-determined s at a b = both-are
+pub is-multicast-determined : (κs : _) (a : _) (x y : _) (e f : _) → is-multicast.Post κs a x e → is-multicast.Post κs a y f → x ≡ y
+is-multicast-determined κs a x y e f p q = both-are p q
 
-module _ (a b : Bool) where
-  pub same-prefix-determined : (length x y : ℕ) → a ≡ samePrefix length x y → b ≡ samePrefix length x y → a ≡ b
-  same-prefix-determined length x y = both-are
+pub is-boundary-determined : (κs : _) (a : _) (x y : _) (e f : _) → is-boundary.Post κs a x e → is-boundary.Post κs a y f → x ≡ y
+is-boundary-determined κs a x y e f p q = both-are p q
 
-  pub zero-past-determined : (length x : ℕ) → a ≡ zeroPast length x → b ≡ zeroPast length x → a ≡ b
-  zero-past-determined length x = both-are
+pub interface-ok-determined : (κs : _) (a : _) (x y : _) (e f : _) → interface-ok.Post κs a x e → interface-ok.Post κs a y f → x ≡ y
+interface-ok-determined κs a x y e f p q = both-are p q
 
-  pub interface-ok-determined : (i : Interface) → a ≡ interfaceOk i → b ≡ interfaceOk i → a ≡ b
-  interface-ok-determined i = both-are
+pub same-prefix-determined : (κs : _) (a : _) (x y : _) (e f : _) → same-prefix.Post κs a x e → same-prefix.Post κs a y f → x ≡ y
+same-prefix-determined κs a x y e f p q = both-are p q
 
-  pub route-ok-determined : (interfaces : ℕ) (r : Route) → a ≡ routeOk interfaces r → b ≡ routeOk interfaces r → a ≡ b
-  route-ok-determined interfaces r = both-are
+pub zero-past-determined : (κs : _) (a : _) (x y : _) (e f : _) → zero-past.Post κs a x e → zero-past.Post κs a y f → x ≡ y
+zero-past-determined κs a x y e f p q = both-are p q
+
+pub route-at-determined : (κs : _) (a : _) (x y : _) (e f : _) → route-at.Post κs a x e → route-at.Post κs a y f → x ≡ y
+route-at-determined κs a x y e f p q = both-are p q
+
+pub is-rp-determined : (κs : _) (a : _) (x y : _) (e f : _) → is-rp.Post κs a x e → is-rp.Post κs a y f → x ≡ y
+is-rp-determined κs a x y e f p q = both-are p q
+
+pub prune-sent-determined : (κs : _) (a : _) (x y : _) (e f : _) → prune-sent.Post κs a x e → prune-sent.Post κs a y f → x ≡ y
+prune-sent-determined κs a x y e f p q = both-are p q
+
+pub in-map-determined : (κs : _) (a : _) (x y : _) (e f : _) → in-map.Post κs a x e → in-map.Post κs a y f → x ≡ y
+in-map-determined κs a x y e f p q = both-are p q
+
+pub route-ok-determined : (κs : _) (a : _) (x y : _) (e f : _) → route-ok.Post κs a x e → route-ok.Post κs a y f → x ≡ y
+route-ok-determined κs a x y e f p q = both-are p q

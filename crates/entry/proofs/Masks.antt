@@ -8,17 +8,18 @@ use lib.Pow.{pow-pos, pow-mono, shl-exact, low, shr-mod}
 use lib.Bits.{bitAnd, and-high}
 use lib.Dec.{ltb, eqb}
 use borrow.Author.Tests.{lt-ltb, eq-eqb, ne-eqb, eqb-true, eqb-false}
-use Rattle.entry.specs.Prefix.{hosts, samePrefix, zeroPast}
+use Rattle.entry.specs.Interface.{mostInterfaces}
+use Rattle.entry.specs.Prefix.{addressBits, hosts, samePrefix, zeroPast}
 use Rattle.entry.specs.Route.{mapOk}
 
--- ones shifted up by k: the ones of the first 32 - k bits
-pub ones-shifted : (k : ℕ) → k ≤ 32 → 4294967295 * 2 ^ k % 2 ^ 32 ≡ 2 ^ 32 - 2 ^ k
+-- ones shifted up by k: ones in all bits but the last k
+pub ones-shifted : (k : ℕ) → k ≤ addressBits → 4294967295 * 2 ^ k % 2 ^ addressBits ≡ 2 ^ addressBits - 2 ^ k
 ones-shifted k h =
     let P : ℕ = 2 ^ k in
     let pos : 0 < P = pow-pos k in
-    let top : P ≤ 4294967296 = pow-mono h in
-    let e : 4294967295 * P ≡ (P - 1) * 4294967296 + (4294967296 - P) = omega arith in
-    rw e (low (P - 1) 32 (omega arith))
+    let top : P ≤ 2 ^ addressBits = pow-mono h in
+    let e : 4294967295 * P ≡ (P - 1) * 2 ^ addressBits + (2 ^ addressBits - P) = omega arith in
+    rw e (low (P - 1) addressBits (omega arith))
 
 -- two tests that hold together are the same test
 pub same-test : (a b c d : ℕ) → (a ≡ b → c ≡ d) → (c ≡ d → a ≡ b) → eqb a b ≡ eqb c d
@@ -27,59 +28,59 @@ same-test a b c d f g = by-flag (eqb a b) refl where
   by-flag true e = e ∙ sym (eq-eqb c d (f (eqb-true a b e)))
   by-flag false e = e ∙ sym (ne-eqb c d (λ q. eqb-false a b e (g q)))
 
-hosts-is : (length : ℕ) → hosts length ≡ 2 ^ (32 - length)
+hosts-is : (bits : ℕ) → hosts bits ≡ 2 ^ (addressBits - bits)
 unfolding hosts
-hosts-is length = refl
+hosts-is bits = refl
 
-hosts-some : (length : ℕ) → 0 < hosts length
-hosts-some length = rw hosts-is (pow-pos (32 - length))
+hosts-some : (bits : ℕ) → 0 < hosts bits
+hosts-some bits = rw hosts-is (pow-pos (addressBits - bits))
 
 -- the two ways in which the mask is made
-pub mask-none : (length : ℕ) → length ≡ 0 → 0 ≡ 2 ^ 32 - hosts length
+pub mask-none : (bits : ℕ) → bits ≡ 0 → 0 ≡ 2 ^ addressBits - hosts bits
 unfolding hosts
-mask-none length e = rw e
+mask-none bits e = rw e
 
-pub mask-some : (length : ℕ) → 4294967295 * 2 ^ (32 - length) % 2 ^ 32 ≡ 2 ^ 32 - hosts length
+pub mask-some : (bits : ℕ) → 4294967295 * 2 ^ (addressBits - bits) % 2 ^ addressBits ≡ 2 ^ addressBits - hosts bits
 unfolding hosts
-mask-some length = ones-shifted (32 - length) (omega arith)
+mask-some bits = ones-shifted (addressBits - bits) (omega arith)
 
--- past a length over 32 there is no bit
-pub none-past : (length a : ℕ) → 32 < length → true ≡ zeroPast length a
+-- past all of an address there is no bit
+pub none-past : (bits a : ℕ) → addressBits < bits → true ≡ zeroPast bits a
 unfolding zeroPast hosts
-none-past length a h = let e : 32 - length ≡ 0 = omega arith in rw e (sym (eq-eqb (a % 1) 0 (omega arith)))
+none-past bits a h = let e : addressBits - bits ≡ 0 = omega arith in rw e (sym (eq-eqb (a % 1) 0 (omega arith)))
 
 -- the bits of a map from interface n on
-pub map-whole : (n map : ℕ) → n ≡ 64 → map < 2 ^ 64 → true ≡ mapOk n map
-map-whole n map e h = rw e (sym (lt-ltb map (2 ^ 64) h))
+pub map-whole : (n map : ℕ) → n ≡ mostInterfaces → map < 2 ^ mostInterfaces → true ≡ mapOk n map
+map-whole n map e h = rw e (sym (lt-ltb map (2 ^ mostInterfaces) h))
 
-pub map-below : (n map : ℕ) → n ≤ 64 → (n ≡ 64 → ⊥) → ltb map (1 * 2 ^ n % 2 ^ 64) ≡ mapOk n map
-map-below n map h other = rw (shl-exact {a = 1} 1 n 64 (omega arith) (omega arith), one-mul)
+pub map-below : (n map : ℕ) → n ≤ mostInterfaces → (n ≡ mostInterfaces → ⊥) → ltb map (1 * 2 ^ n % 2 ^ mostInterfaces) ≡ mapOk n map
+map-below n map h other = rw (shl-exact {a = 1} 1 n mostInterfaces (omega arith) (omega arith), one-mul)
 
-module _ (length : ℕ) (short : length ≤ 32) where
-  mask-eq : 2 ^ 32 - hosts length ≡ 2 ^ (length + (32 - length)) - 2 ^ (32 - length)
+module _ (bits : ℕ) (short : bits ≤ addressBits) where
+  mask-eq : 2 ^ addressBits - hosts bits ≡ 2 ^ (bits + (addressBits - bits)) - 2 ^ (addressBits - bits)
   unfolding hosts
-  mask-eq = let e : 32 ≡ length + (32 - length) = omega arith in ap (λ (n : ℕ). 2 ^ n - 2 ^ (32 - length)) e
+  mask-eq = let e : addressBits ≡ bits + (addressBits - bits) = omega arith in ap (λ (n : ℕ). 2 ^ n - 2 ^ (addressBits - bits)) e
 
-  bounded : (a : ℕ) → a < 2 ^ 32 → a < 2 ^ (length + (32 - length))
-  bounded a h = let e : length + (32 - length) ≡ 32 = omega arith in rw e h
+  bounded : (a : ℕ) → a < 2 ^ addressBits → a < 2 ^ (bits + (addressBits - bits))
+  bounded a h = let e : bits + (addressBits - bits) ≡ addressBits = omega arith in rw e h
 
   -- what the mask leaves: whole prefixes
-  masked : (m a : ℕ) → m ≡ 2 ^ 32 - hosts length → a < 2 ^ 32 → bitAnd a m ≡ a / hosts length * hosts length
+  masked : (m a : ℕ) → m ≡ 2 ^ addressBits - hosts bits → a < 2 ^ addressBits → bitAnd a m ≡ a / hosts bits * hosts bits
   masked m a e h =
-      rw (e, mask-eq, and-high a length (32 - length), shr-mod length (32 - length) (bounded a h), hosts-is length)
+      rw (e, mask-eq, and-high a bits (addressBits - bits), shr-mod bits (addressBits - bits) (bounded a h), hosts-is bits)
 
-  pub same-masked : (m a b : ℕ) → m ≡ 2 ^ 32 - hosts length → a < 2 ^ 32 → b < 2 ^ 32 → eqb (bitAnd a m) (bitAnd b m) ≡ samePrefix length a b
+  pub same-masked : (m a b : ℕ) → m ≡ 2 ^ addressBits - hosts bits → a < 2 ^ addressBits → b < 2 ^ addressBits → eqb (bitAnd a m) (bitAnd b m) ≡ samePrefix bits a b
   unfolding samePrefix
   same-masked m a b e ha hb =
-      let H : ℕ = hosts length in
+      let H : ℕ = hosts bits in
       rw (masked m a e ha, masked m b e hb)
       (same-test (a / H * H) (b / H * H) (a / H) (b / H)
-      (eq-of-mul-eq-mul-right H (hosts-some length) (a / H) (b / H))
+      (eq-of-mul-eq-mul-right H (hosts-some bits) (a / H) (b / H))
       (ap (λ (n : ℕ). n * H)))
 
-  pub zero-masked : (m a : ℕ) → m ≡ 2 ^ 32 - hosts length → a < 2 ^ 32 → eqb (bitAnd a m) a ≡ zeroPast length a
+  pub zero-masked : (m a : ℕ) → m ≡ 2 ^ addressBits - hosts bits → a < 2 ^ addressBits → eqb (bitAnd a m) a ≡ zeroPast bits a
   unfolding zeroPast
   zero-masked m a e h =
-      let H : ℕ = hosts length in
+      let H : ℕ = hosts bits in
       let whole : a / H * H + a % H ≡ a = div-add-mod' a H in
       rw (masked m a e h) (same-test (a / H * H) a (a % H) 0 (λ q. omega arith) (λ q. omega arith))

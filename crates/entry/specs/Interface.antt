@@ -5,11 +5,16 @@ use mathlib.Core.List.{List}
 use lib.Dec.{leb, eqb}
 use Rattle.wire.specs.Numbers.{byteAt, be32, be64}
 use Rattle.wire.specs.Addresses.{unicast}
+use Rattle.entry.specs.Prefix.{addressBits}
 use Rattle.entry.specs.declared.interface.Interface.{Interface}
 
 -- bytes of an interface entry
 abbrev pub interfaceSize : ℕ
 interfaceSize = 24
+
+-- the most interfaces, numbered from 0
+abbrev pub mostInterfaces : ℕ
+mostInterfaces = 64
 
 -- the interface whose entry begins at a place
 unfoldable pub interfaceAt : List ℕ → ℕ → Interface
@@ -34,4 +39,4 @@ isBoundary i = eqb (i .flags / 2 % 2) 1
 
 -- address unicast, prefix length 1 to 32, no undefined flag, the zero byte zero
 unfoldable pub interfaceOk : Interface → Bool
-interfaceOk i = unicast (i .address) && leb 1 (i .length) && leb (i .length) 32 && leb (i .flags) 3 && eqb (i .zero) 0
+interfaceOk i = unicast (i .address) && leb 1 (i .length) && leb (i .length) addressBits && leb (i .flags) 3 && eqb (i .zero) 0

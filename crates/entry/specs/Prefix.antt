@@ -1,16 +1,20 @@
--- Prefixes of IPv4 addresses.
+-- Prefixes of IPv4 addresses: their first bits.
 use Prim.Native.Nat.{ℕ, _-_, _^_, _/_, _%_}
 use mathlib.Core.Bool.{Bool}
 use lib.Dec.{eqb}
 
--- how many addresses share a prefix of this length; lengths over 32 are not met in a valid sheet
+-- bits of an address
+abbrev pub addressBits : ℕ
+addressBits = 32
+
+-- how many addresses share a prefix of so many bits; more than an address has are not met in a valid sheet
 unfoldable pub hosts : ℕ → ℕ
-hosts length = 2 ^ (32 - length)
+hosts bits = 2 ^ (addressBits - bits)
 
--- the first `length` bits of two addresses agree
+-- the first bits of two addresses agree, so many of them
 unfoldable pub samePrefix : ℕ → ℕ → ℕ → Bool
-samePrefix length a b = eqb (a / hosts length) (b / hosts length)
+samePrefix bits a b = eqb (a / hosts bits) (b / hosts bits)
 
--- the bits past the length are zero
+-- the bits past the first are zero
 unfoldable pub zeroPast : ℕ → ℕ → Bool
-zeroPast length a = eqb (a % hosts length) 0
+zeroPast bits a = eqb (a % hosts bits) 0

@@ -5,7 +5,7 @@ use mathlib.Core.List.{List}
 use lib.Dec.{leb, ltb, eqb}
 use Rattle.wire.specs.Numbers.{byteAt, be16, be32, be64}
 use Rattle.wire.specs.Addresses.{unicast, multicast, allOnes}
-use Rattle.entry.specs.Prefix.{zeroPast}
+use Rattle.entry.specs.Prefix.{addressBits, zeroPast}
 use Rattle.entry.specs.declared.route.Route.{Route}
 
 -- bytes of a route entry
@@ -33,13 +33,15 @@ routeAt s at =
       stopped = be64 s (at + 48);
     }
 
--- the kinds: source and group, group, source only
+-- kind 1: source and group
 abbrev pub sourceAndGroup : ℕ
 sourceAndGroup = 1
 
+-- kind 2: group
 abbrev pub groupOnly : ℕ
 groupOnly = 2
 
+-- kind 3: source only
 abbrev pub sourceOnly : ℕ
 sourceOnly = 3
 
@@ -63,9 +65,9 @@ inMap map i = eqb (map / 2 ^ i % 2) 1
 abbrev pub kindOk : ℕ → Bool
 kindOk kind = leb sourceAndGroup kind && leb kind sourceOnly
 
--- kind 1 has length 1 to 32, kind 2 length 0, kind 3 length 0 to 32
+-- source lengths: kind 1 has 1 to 32 bits, kind 2 none, kind 3 up to 32
 abbrev pub lengthOk : ℕ → ℕ → Bool
-lengthOk kind length = leb length 32 && (eqb length 0 || not (eqb kind groupOnly)) && (leb 1 length || not (eqb kind sourceAndGroup))
+lengthOk kind bits = leb bits addressBits && (eqb bits 0 || not (eqb kind groupOnly)) && (leb 1 bits || not (eqb kind sourceAndGroup))
 
 -- no undefined flag; RP on kind 2 only
 abbrev pub flagsOk : ℕ → ℕ → Bool

@@ -1,8 +1,15 @@
 // An interface entry.
+use crate::prefix::ADDRESS_BITS;
 ghost use mathlib.Core.Path.{_≡_};
 ghost use Prim.Native.Nat.{_+_, _≤_};
 ghost use lib.ListN.{length};
-ghost use Rattle.entry.specs.Interface.{interfaceAt, interfaceOk};
+ghost use Rattle.entry.specs.Interface.{interfaceSize, interfaceAt, isMulticast, isBoundary, interfaceOk};
+
+// Bytes of an interface entry.
+pub const INTERFACE_SIZE: usize = 24;
+
+// The most interfaces: a map has a bit for each.
+pub const MOST_INTERFACES: usize = 64;
 
 pub struct Interface {
     pub address: u32,
@@ -14,9 +21,9 @@ pub struct Interface {
     pub output: u64,
 }
 
-// The interface whose 24 bytes begin at `at`.
+// The interface whose bytes begin at `at`.
 pub fn interface_at(s: &[u8], at: usize) -> Interface
-    requires { ⌜ at + 24 ≤ length (now s) ⌝ }
+    requires { ⌜ at + interfaceSize ≤ length (now s) ⌝ }
     ensures { λ r. ⌜ r ≡ interfaceAt (now (s .entry)) at ⌝ }
 {
     Interface {
@@ -30,9 +37,27 @@ pub fn interface_at(s: &[u8], at: usize) -> Interface
     }
 }
 
+// Whether the multicast flag is set.
+pub fn is_multicast(i: Interface) -> bool
+    ensures { λ r. ⌜ r ≡ isMulticast i ⌝ }
+{
+    i.flags % 2 == 1
+}
+
+// Whether the boundary flag is set.
+pub fn is_boundary(i: Interface) -> bool
+    ensures { λ r. ⌜ r ≡ isBoundary i ⌝ }
+{
+    i.flags / 2 % 2 == 1
+}
+
 // Whether an interface keeps every rule on it.
 pub fn interface_ok(i: Interface) -> bool
     ensures { λ r. ⌜ r ≡ interfaceOk i ⌝ }
 {
-    wire::unicast(i.address) & (1 <= i.length) & (i.length <= 32) & (i.flags <= 3) & (i.zero == 0)
+    wire::unicast(i.address)
+        & (1 <= i.length)
+        & (i.length <= ADDRESS_BITS)
+        & (i.flags <= 3)
+        & (i.zero == 0)
 }

@@ -1,34 +1,37 @@
 // Prefixes of IPv4 addresses.
 ghost use mathlib.Core.Path.{_≡_};
 ghost use Prim.Native.Nat.{_≤_, _-_, _^_};
-ghost use Rattle.entry.specs.Prefix.{hosts, samePrefix, zeroPast};
+ghost use Rattle.entry.specs.Prefix.{addressBits, hosts, samePrefix, zeroPast};
 
-// Ones in the first `length` bits. Length 0 has a line of its own, where the shift would be 32.
-fn mask(length: u8) -> u32
-    requires { ⌜ length ≤ 32 ⌝ }
-    ensures { λ r. ⌜ r ≡ 2 ^ 32 - hosts length ⌝ }
+// Bits of an address.
+pub const ADDRESS_BITS: u8 = 32;
+
+// Ones in the first bits. No bits have a line of their own, where the shift would be as wide as an address.
+fn mask(bits: u8) -> u32
+    requires { ⌜ bits ≤ addressBits ⌝ }
+    ensures { λ r. ⌜ r ≡ 2 ^ addressBits - hosts bits ⌝ }
 {
-    if length == 0 {
+    if bits == 0 {
         return 0;
     }
-    4294967295 << (32 - length)
+    wire::ALL_ONES << (ADDRESS_BITS - bits)
 }
 
-// Whether the first `length` bits of two addresses agree.
-pub fn same_prefix(length: u8, a: u32, b: u32) -> bool
-    requires { ⌜ length ≤ 32 ⌝ }
-    ensures { λ r. ⌜ r ≡ samePrefix length a b ⌝ }
+// Whether the first bits of two addresses agree.
+pub fn same_prefix(bits: u8, a: u32, b: u32) -> bool
+    requires { ⌜ bits ≤ addressBits ⌝ }
+    ensures { λ r. ⌜ r ≡ samePrefix bits a b ⌝ }
 {
-    let m = mask(length);
+    let m = mask(bits);
     a & m == b & m
 }
 
-// Whether the bits past the length are zero.
-pub fn zero_past(length: u8, a: u32) -> bool
-    ensures { λ r. ⌜ r ≡ zeroPast length a ⌝ }
+// Whether the bits past the first are zero.
+pub fn zero_past(bits: u8, a: u32) -> bool
+    ensures { λ r. ⌜ r ≡ zeroPast bits a ⌝ }
 {
-    if 32 < length {
+    if ADDRESS_BITS < bits {
         return true;
     }
-    a & mask(length) == a
+    a & mask(bits) == a
 }

@@ -1,9 +1,27 @@
 // A route entry.
+use crate::interface::MOST_INTERFACES;
+use crate::prefix::ADDRESS_BITS;
 use crate::prefix::zero_past;
 ghost use mathlib.Core.Path.{_≡_};
-ghost use Prim.Native.Nat.{_+_, _≤_};
+ghost use Prim.Native.Nat.{_+_, _≤_, _<_};
 ghost use lib.ListN.{length};
-ghost use Rattle.entry.specs.Route.{routeAt, routeOk, kindOk, lengthOk, flagsOk, groupOk, incomingOk, upstreamOk, mapOk};
+ghost use Rattle.entry.specs.Interface.{mostInterfaces};
+ghost use Rattle.entry.specs.Route.{routeSize, routeAt, isRp, pruneSent, inMap, routeOk, kindOk, lengthOk, flagsOk, groupOk, incomingOk, upstreamOk, mapOk};
+
+// Bytes of a route entry.
+pub const ROUTE_SIZE: usize = 56;
+
+// The kind of a route for a source and a group.
+pub const SOURCE_AND_GROUP: u8 = 1;
+
+// The kind of a route for a group.
+pub const GROUP_ONLY: u8 = 2;
+
+// The kind of a route for a source only.
+pub const SOURCE_ONLY: u8 = 3;
+
+// The number of an incoming interface that is not known.
+pub const UNKNOWN: u16 = 65535;
 
 pub struct Route {
     pub kind: u8,
@@ -23,9 +41,9 @@ pub struct Route {
     pub stopped: u64,
 }
 
-// The route whose 56 bytes begin at `at`.
+// The route whose bytes begin at `at`.
 pub fn route_at(s: &[u8], at: usize) -> Route
-    requires { ⌜ at + 56 ≤ length (now s) ⌝ }
+    requires { ⌜ at + routeSize ≤ length (now s) ⌝ }
     ensures { λ r. ⌜ r ≡ routeAt (now (s .entry)) at ⌝ }
 {
     Route {
@@ -47,47 +65,71 @@ pub fn route_at(s: &[u8], at: usize) -> Route
     }
 }
 
+// Whether the RP flag is set.
+pub fn is_rp(r: Route) -> bool
+    ensures { λ b. ⌜ b ≡ isRp r ⌝ }
+{
+    r.flags % 2 == 1
+}
+
+// Whether the flag for a prune that was sent is set.
+pub fn prune_sent(r: Route) -> bool
+    ensures { λ b. ⌜ b ≡ pruneSent r ⌝ }
+{
+    r.flags / 2 % 2 == 1
+}
+
+// Whether interface `i` is in a map.
+pub fn in_map(map: u64, i: usize) -> bool
+    requires { ⌜ i < mostInterfaces ⌝ }
+    ensures { λ r. ⌜ r ≡ inMap map i ⌝ }
+{
+    (map >> i) % 2 == 1
+}
+
 fn kind_ok(kind: u8) -> bool
     ensures { λ r. ⌜ r ≡ kindOk kind ⌝ }
 {
-    (1 <= kind) & (kind <= 3)
+    (SOURCE_AND_GROUP <= kind) & (kind <= SOURCE_ONLY)
 }
 
-fn length_ok(kind: u8, length: u8) -> bool
-    ensures { λ r. ⌜ r ≡ lengthOk kind length ⌝ }
+fn length_ok(kind: u8, bits: u8) -> bool
+    ensures { λ r. ⌜ r ≡ lengthOk kind bits ⌝ }
 {
-    (length <= 32) & ((length == 0) | (kind != 2)) & ((1 <= length) | (kind != 1))
+    (bits <= ADDRESS_BITS)
+        & ((bits == 0) | (kind != GROUP_ONLY))
+        & ((1 <= bits) | (kind != SOURCE_AND_GROUP))
 }
 
 fn flags_ok(kind: u8, flags: u8) -> bool
     ensures { λ r. ⌜ r ≡ flagsOk kind flags ⌝ }
 {
-    (flags <= 3) & ((flags % 2 == 0) | (kind == 2))
+    (flags <= 3) & ((flags % 2 == 0) | (kind == GROUP_ONLY))
 }
 
 fn group_ok(kind: u8, group: u32) -> bool
     ensures { λ r. ⌜ r ≡ groupOk kind group ⌝ }
 {
-    ((kind == 3) & (group == 0)) | ((kind != 3) & wire::multicast(group))
+    ((kind == SOURCE_ONLY) & (group == 0)) | ((kind != SOURCE_ONLY) & wire::multicast(group))
 }
 
 fn incoming_ok(interfaces: u16, incoming: u16) -> bool
     ensures { λ r. ⌜ r ≡ incomingOk interfaces incoming ⌝ }
 {
-    (incoming < interfaces) | (incoming == 65535)
+    (incoming < interfaces) | (incoming == UNKNOWN)
 }
 
 fn upstream_ok(incoming: u16, upstream: u32) -> bool
     ensures { λ r. ⌜ r ≡ upstreamOk incoming upstream ⌝ }
 {
-    (upstream == 0) | ((incoming != 65535) & (wire::unicast(upstream) | wire::all_ones(upstream)))
+    (upstream == 0) | ((incoming != UNKNOWN) & (wire::unicast(upstream) | wire::all_ones(upstream)))
 }
 
 fn map_ok(interfaces: u16, map: u64) -> bool
-    requires { ⌜ interfaces ≤ 64 ⌝ }
+    requires { ⌜ interfaces ≤ mostInterfaces ⌝ }
     ensures { λ r. ⌜ r ≡ mapOk interfaces map ⌝ }
 {
-    if interfaces == 64 {
+    if interfaces as usize == MOST_INTERFACES {
         return true;
     }
     map < 1 << interfaces
@@ -95,7 +137,7 @@ fn map_ok(interfaces: u16, map: u64) -> bool
 
 // Whether a route keeps every rule on it, where there are so many interfaces.
 pub fn route_ok(interfaces: u16, r: Route) -> bool
-    requires { ⌜ interfaces ≤ 64 ⌝ }
+    requires { ⌜ interfaces ≤ mostInterfaces ⌝ }
     ensures { λ ok. ⌜ ok ≡ routeOk interfaces r ⌝ }
 {
     kind_ok(r.kind)

@@ -1,6 +1,6 @@
 -- Laws of appending a type 4 block to a message whose blocks fill it, be it a Query, a Request or a Reply: there is one block
 -- more, it is the last, and the blocks and the header before it stay.
-use Prim.Native.Nat.{ℕ, _+_, _≤_, _<_}
+use Prim.Native.Nat.{ℕ, _+_, _≤_}
 use mathlib.Core.Path.{_≡_, refl}
 use mathlib.Core.Bool.{true, false}
 use mathlib.Core.List.{List, [], _∷_, _++_}
@@ -15,8 +15,9 @@ use Rattle.wire.specs.Numbers.{byteAt, be16}
 use Rattle.wire.proofs.Laws.{be-first}
 use Rattle.message.specs.Format.{headerSize, query, standard, standardSize}
 use Rattle.message.specs.Header.{headerOf}
-use Rattle.message.specs.Blocks.{Block, begins, rightSize, fitsIn, blocksFrom, blocksOf, totalSize, standardPlaces, lastOr, standards, standardCount, standardAt, lastStandard, blocksEnd, standardFirst, fillsMessage, requestForm, rightForm, StandardBlock}
-use Rattle.rows.proofs.Tests.{decided, both-of}
+use Rattle.message.specs.Inside.{StandardBlock}
+use Rattle.message.specs.Blocks.{Placed, begins, rightSize, fitsIn, blocksFrom, blocksOf, totalSize, standardPlaces, standards, standardCount, blocksEnd, standardFirst, fillsMessage, requestForm, rightForm}
+use Rattle.rows.proofs.Laws.{decided, both-of}
 use Rattle.message.proofs.Cut.{begun, too-short, no-blocks, block-first, by-blocks}
 use Rattle.message.proofs.Turns.{standard-more, standard-same}
 use Rattle.message.proofs.Fields.{same-header}
@@ -43,7 +44,7 @@ unfolding begins fitsIn
 standard-begins block b = rw (b .kind, b .size, b .long)
 
 -- the block that appending makes
-abbrev pub newBlock : ℕ → Block
+abbrev pub newBlock : ℕ → Placed
 newBlock at = record { at = at; kind = standard; size = standardSize }
 
 module _ (block : List ℕ) (b : StandardBlock block) where
@@ -82,12 +83,12 @@ module _ (block : List ℕ) (b : StandardBlock block) where
   grows = by-blocks Grows grows-none grows-on
 
 -- one block more, seen by each of the definitions over a list of blocks
-total-more : (blocks : List Block) (block : Block) → totalSize (blocks ++ (block ∷ [])) ≡ totalSize blocks + block .size
+total-more : (blocks : List Placed) (block : Placed) → totalSize (blocks ++ (block ∷ [])) ≡ totalSize blocks + block .size
 unfolding totalSize
 total-more [] block = omega arith
 total-more (x ∷ blocks) block = rw (total-more blocks block) (omega arith)
 
-places-on : (x : Block) (blocks : List Block) (at : ℕ) → standardPlaces (blocks ++ (newBlock at ∷ [])) ≡ standardPlaces blocks ++ (at ∷ [])
+places-on : (x : Placed) (blocks : List Placed) (at : ℕ) → standardPlaces (blocks ++ (newBlock at ∷ [])) ≡ standardPlaces blocks ++ (at ∷ [])
     → standardPlaces (x ∷ (blocks ++ (newBlock at ∷ []))) ≡ standardPlaces (x ∷ blocks) ++ (at ∷ [])
 places-on x blocks at h =
     ⊎-elim
@@ -95,17 +96,12 @@ places-on x blocks at h =
     (λ e. rw (standard-same x (blocks ++ (newBlock at ∷ [])) e, standard-same x blocks e, h))
     (decided (eqb (x .kind) standard))
 
-places-more : (blocks : List Block) (at : ℕ) → standardPlaces (blocks ++ (newBlock at ∷ [])) ≡ standardPlaces blocks ++ (at ∷ [])
+places-more : (blocks : List Placed) (at : ℕ) → standardPlaces (blocks ++ (newBlock at ∷ [])) ≡ standardPlaces blocks ++ (at ∷ [])
 unfolding standardPlaces
 places-more [] at = refl
 places-more (x ∷ blocks) at = places-on x blocks at (places-more blocks at)
 
-last-more : (none : ℕ) (places : List ℕ) (at : ℕ) → lastOr none (places ++ (at ∷ [])) ≡ at
-unfolding lastOr
-last-more none [] at = refl
-last-more none (p ∷ places) at = last-more p places at
-
-first-still : (blocks others : List Block) → standardFirst blocks ≡ true → standardFirst (blocks ++ others) ≡ true
+first-still : (blocks others : List Placed) → standardFirst blocks ≡ true → standardFirst (blocks ++ others) ≡ true
 unfolding standardFirst
 first-still [] others e = let z : _≡_ {A = ℕ} 0 1 = cc in absurd (omega arith)
 first-still (x ∷ blocks) others e = e
@@ -137,12 +133,6 @@ module _ (s block : List ℕ) (low : headerSize ≤ length s) (full : fillsMessa
 
   pub append-count : standardCount (s ++ block) ≡ standardCount s + 1
   append-count = rw append-standards (length-append (standards s) (length s ∷ []))
-
-  pub append-last : lastStandard (s ++ block) ≡ length s
-  append-last = rw append-standards (last-more 0 (standards s) (length s))
-
-  pub append-standard-at : (k : ℕ) → k < standardCount s → standardAt (s ++ block) k ≡ standardAt s k
-  append-standard-at k h = rw append-standards (List·getD-append (standards s) (length s ∷ []) 0 k h)
 
 -- the two forms: a Query is a header alone, any other message has the form of a Request
 module _ (s : List ℕ) (form : rightForm s ≡ true) where

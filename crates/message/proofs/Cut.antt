@@ -9,9 +9,9 @@ use borrow.Author.Tests.{leb-true, eqb-true}
 use lib.Dec.{leb, eqb}
 use lib.ListN.{length, drop, length-drop}
 use Rattle.wire.specs.Numbers.{byteAt, be16}
-use Rattle.rows.proofs.Tests.{decided, both-of, one-of}
+use Rattle.rows.proofs.Laws.{decided, both-of, one-of}
 use Rattle.message.specs.Format.{standard, augmented, standardSize, augmentedLeast}
-use Rattle.message.specs.Blocks.{Block, blockAt, begins, rightSize, fitsIn, blocksBy, blocksFrom}
+use Rattle.message.specs.Blocks.{Placed, placedAt, begins, rightSize, fitsIn, blocksBy, blocksFrom}
 
 -- what is known of a block that begins
 pub record Begun (rest : List ℕ) : Type 0 where
@@ -49,7 +49,7 @@ none-by zero at rest e = refl
 none-by (suc n) at rest e = rw e
 
 more-by : (n at : ℕ) (rest : List ℕ) → begins rest ≡ true
-    → blocksBy (suc n) at rest ≡ blockAt at rest ∷ blocksBy n (at + be16 rest 1) (drop (be16 rest 1) rest)
+    → blocksBy (suc n) at rest ≡ placedAt at rest ∷ blocksBy n (at + be16 rest 1) (drop (be16 rest 1) rest)
 unfolding blocksBy
 more-by n at rest e = rw e
 
@@ -67,7 +67,7 @@ turns-enough (suc n) (suc m) at rest h k =
     let fewer : (t : ℕ) → length rest ≤ suc t → length (drop size rest) ≤ t =
     λ t l. rw (length-drop size rest) (omega (arith, b .least)) in
     more-by n at rest e
-    ∙ ap (λ (l : List Block). blockAt at rest ∷ l) (turns-enough n m (at + size) (drop size rest) (fewer n h) (fewer m k))
+    ∙ ap (λ (l : List Placed). placedAt at rest ∷ l) (turns-enough n m (at + size) (drop size rest) (fewer n h) (fewer m k))
     ∙ sym (more-by m at rest e))
     (λ e. none-by (suc n) at rest e ∙ sym (none-by (suc m) at rest e))
     (decided (begins rest))
@@ -78,7 +78,7 @@ unfolding blocksFrom
 no-blocks at rest e = none-by (length rest) at rest e
 
 pub block-first : (at : ℕ) (rest : List ℕ) → begins rest ≡ true
-    → blocksFrom at rest ≡ blockAt at rest ∷ blocksFrom (at + be16 rest 1) (drop (be16 rest 1) rest)
+    → blocksFrom at rest ≡ placedAt at rest ∷ blocksFrom (at + be16 rest 1) (drop (be16 rest 1) rest)
 unfolding blocksFrom
 block-first at rest e =
     let b = begun rest e in
@@ -88,7 +88,7 @@ block-first at rest e =
     let left : length (drop size rest) ≤ n = rw (length-drop size rest) (omega (arith, b .least)) in
     ap (λ (t : ℕ). blocksBy t at rest) one
     ∙ more-by n at rest e
-    ∙ ap (λ (l : List Block). blockAt at rest ∷ l)
+    ∙ ap (λ (l : List Placed). placedAt at rest ∷ l)
     (turns-enough n (length (drop size rest)) (at + size) (drop size rest) left (omega arith))
 
 -- induction over the blocks: from what stands behind the first block to the whole

@@ -1,20 +1,15 @@
--- Two answers that meet a function's promise are equal. Each promise here is an equation, so one law serves all.
-use Prim.Native.Nat.{ℕ}
-use mathlib.Core.List.{List}
+-- Two answers that meet what a function ensures are equal.
 use mathlib.Core.Path.{_≡_}
-use Rattle.wire.proofs.Determined.{both-are}
-use Rattle.message.specs.declared.Header.{Header}
-use Rattle.message.specs.declared.Blocks.{Blocks}
-use Rattle.message.specs.declared.Checked.{Checked}
-use Rattle.message.specs.Header.{headerOf}
-use Rattle.message.specs.Check.{blocksSeen, checkOf}
+use Rattle.wire.proofs.Laws.{both-are}
+use Rattle.message.proofs.header_of.Reads as header-of
+use Rattle.message.proofs.blocks_of.Reads as blocks-of
+use Rattle.message.proofs.check.Reads as check
 
-module _ (s : List ℕ) where
-  pub header-of-determined : (a b : Header) → a ≡ headerOf s → b ≡ headerOf s → a ≡ b
-  header-of-determined a b = both-are
+pub header-of-determined : (κs : _) (a : _) (x y : _) (e f : _) → header-of.Post κs a x e → header-of.Post κs a y f → x ≡ y
+header-of-determined κs a x y e f = both-are
 
-  pub blocks-of-determined : (a b : Blocks) → a ≡ blocksSeen s → b ≡ blocksSeen s → a ≡ b
-  blocks-of-determined a b = both-are
+pub blocks-of-determined : (κs : _) (a : _) (x y : _) (e f : _) → blocks-of.Post κs a x e → blocks-of.Post κs a y f → x ≡ y
+blocks-of-determined κs a x y e f = both-are
 
-  pub check-determined : (a b : Checked) → a ≡ checkOf s → b ≡ checkOf s → a ≡ b
-  check-determined a b = both-are
+pub check-determined : (κs : _) (a : _) (x y : _) (e f : _) → check.Post κs a x e → check.Post κs a y f → x ≡ y
+check-determined κs a x y e f = both-are

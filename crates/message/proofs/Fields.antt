@@ -7,14 +7,8 @@ use native.Mathlib.Omega.{arith}
 use lib.Dec.{lit≤}
 use Rattle.wire.specs.Numbers.{byteAt, be}
 use Rattle.wire.proofs.Laws.{be-same}
-use Rattle.message.specs.declared.Header.{Header}
 use Rattle.message.specs.Format.{headerSize}
-use Rattle.message.specs.Header.{headerOf}
-
--- a header with another type
-abbrev pub retyped : ℕ → Header → Header
-retyped v h =
-    record { kind = v; length = h .length; hops = h .hops; group = h .group; source = h .source; client = h .client; id = h .id; port = h .port }
+use Rattle.message.specs.Header.{headerOf, retyped}
 
 module _ (s t : List ℕ) where
   pub same-but-type : ((j : ℕ) → 0 < j → j < headerSize → byteAt t j ≡ byteAt s j) → headerOf t ≡ retyped (byteAt t 0) (headerOf s)

@@ -1,11 +1,14 @@
--- Laws that this crate's proofs and the crates above cite.
-pub mod Cut
-pub mod Turns
-pub mod Rows
-pub mod Standards
-pub mod Fields
-pub mod Append
-pub mod Write
-pub mod Accept
-pub mod Sent
+-- The laws that other crates cite, in one place; and that each promise fixes its answer.
+pub mod Laws
 pub mod Determined
+-- Where they are proved.
+mod Cut
+mod Turns
+mod Rows
+mod Fields
+mod Standards
+mod Append
+mod Write
+mod Accept
+mod Sent
+mod Bytes

@@ -1,8 +1,8 @@
 -- The ways out of `right_form` and of `check`, each from the tests and the calls that led to it.
-use Prim.Native.Nat.{ℕ, suc, _≤_, _<_}
+use Prim.Native.Nat.{ℕ, _≤_, _<_}
 use mathlib.Core.Path.{_≡_, refl, sym, _∙_}
-use mathlib.Core.Bool.{Bool, true, false, not, cond, _&&_, and-false}
-use mathlib.Core.List.{List, []}
+use mathlib.Core.Bool.{Bool, true, false, not, _&&_, and-false}
+use mathlib.Core.List.{List, [], _∷_, _++_}
 use mathlib.Core.Logic.{⊎-elim}
 use native.Mathlib.Omega.{arith}
 use borrow.Author.Tests.{lt-ltb, le-ltb, eq-eqb, ne-eqb}
@@ -14,10 +14,12 @@ use Rattle.message.specs.declared.Header.{Header}
 use Rattle.message.specs.declared.Blocks.{Blocks}
 use Rattle.message.specs.declared.Checked.{Checked}
 use Rattle.message.specs.Format.{headerSize, most, query, standard}
-use Rattle.message.specs.Header.{headerOf, queryOrRequest, rightLength, rightGroup, rightSource, namesNothing, rightClient}
+use Rattle.message.specs.Header.{headerOf}
 use Rattle.message.specs.Blocks.{begins, blocksOf, totalSize, blocksEnd, standardFirst, fillsMessage, rightForm}
-use Rattle.message.specs.Check.{firstRow, numberOf, blocksSeen, refused, accepted, checkOf}
-use Rattle.rows.proofs.Tests.{decided}
+use Rattle.message.specs.Check.{dropSize, dropBlocks, headerRows, messageRows}
+use Rattle.message.specs.Inside.{blocksSeen, refusedMessage, acceptedMessage, checkOf}
+use Rattle.rows.specs.Rows.{Row, row, byFirst, firstOf}
+use Rattle.rows.proofs.Laws.{given-by, none-by, decided}
 use Rattle.message.proofs.Cut.{too-short, no-blocks, block-first}
 
 -- a header alone has no block
@@ -51,56 +53,38 @@ module _ (s : List ℕ) where
         rw (ne-eqb _ _ k, e)
         (⊎-elim (λ b. rw (first-kind s b)) (λ b. rw (ne-eqb _ _ (not-filled s b n))) (decided (begins (drop headerSize s))))
 
--- every right size is like another
-right-size : (size : ℕ) → headerSize ≤ size → size ≤ most → (h : Header) (form : Bool) → firstRow size h form ≡ firstRow headerSize h form
-unfolding firstRow
-right-size size low high h form = rw (le-ltb _ _ low, le-ltb _ _ high)
-
--- a number that was given, or where it is 0 what the rows after it give
-abbrev pub orElse : ℕ → ℕ → ℕ
-orElse number after = cond (eqb number 0) after number
-
-row-else : (t : Bool) (k x y after : ℕ) → x ≡ orElse y after → cond t (suc k) x ≡ orElse (cond t (suc k) y) after
-row-else true k x y after e = rw (ne-eqb (suc k) 0 (λ q. omega arith))
-row-else false k x y after e = e
-
--- the rows on the header come before the row on the form
-pub header-then-form : (h : Header) (form : Bool) → firstRow headerSize h form ≡ orElse (firstRow headerSize h true) (cond (not form) 13 0)
-unfolding firstRow
-header-then-form h form =
-    row-else (not (queryOrRequest h)) 5 _ _ _
-    (row-else (not (rightLength h)) 6 _ _ _
-    (row-else (eqb (h .hops) 0) 7 _ _ _
-    (row-else (not (rightGroup h)) 8 _ _ _
-    (row-else (not (rightSource h)) 9 _ _ _
-    (row-else (namesNothing h) 10 _ _ _
-    (row-else (not (rightClient h)) 11 _ _ _ refl))))))
-
 -- the rows of the table, each under those before it
 module _ (s : List ℕ) where
-  pub row-short : (r : Checked) → length s < headerSize → r ≡ refused 5 → r ≡ checkOf s
-  unfolding checkOf numberOf firstRow
+  pub row-short : (r : Checked) → length s < headerSize → r ≡ refusedMessage dropSize → r ≡ checkOf s
+  unfolding checkOf messageRows byFirst
   row-short r h p = rw (lt-ltb _ _ h) p
 
   module _ (low : headerSize ≤ length s) where
-    pub row-long : (r : Checked) → most < length s → r ≡ refused 5 → r ≡ checkOf s
-    unfolding checkOf numberOf firstRow
+    pub row-long : (r : Checked) → most < length s → r ≡ refusedMessage dropSize → r ≡ checkOf s
+    unfolding checkOf messageRows byFirst
     row-long r h p = rw (le-ltb _ _ low, lt-ltb _ _ h) p
 
-    module _ (high : length s ≤ most) (h : Header) (n : ℕ) (eh : h ≡ headerOf s) (en : n ≡ firstRow headerSize h true) where
-      number-is : numberOf s ≡ orElse n (cond (not (rightForm s)) 13 0)
-      unfolding numberOf
-      number-is = rw (en, eh) (right-size (length s) low high (headerOf s) (rightForm s) ∙ header-then-form (headerOf s) (rightForm s))
+    module _ (high : length s ≤ most) (h : Header) (n : ℕ) (eh : h ≡ headerOf s) (en : n ≡ firstOf (headerRows h)) where
+      -- the row on the form
+      abbrev last : List Row
+      last = row dropBlocks (not (rightForm s)) ∷ []
 
-      pub row-header : (r : Checked) → (n ≡ 0 → ⊥) → r ≡ refused n → r ≡ checkOf s
-      unfolding checkOf
-      row-header r some p = rw (number-is, ne-eqb n 0 some, ne-eqb n 0 some) p
+      sized : checkOf s ≡ byFirst refusedMessage (acceptedMessage s) (headerRows h ++ last)
+      unfolding checkOf messageRows byFirst
+      sized = rw (le-ltb _ _ low, le-ltb _ _ high, eh)
+
+      pub row-header : (r : Checked) → (n ≡ 0 → ⊥) → r ≡ refusedMessage n → r ≡ checkOf s
+      row-header r some p = p ∙ sym (sized ∙ given-by refusedMessage (acceptedMessage s) (headerRows h) last n en some)
 
       module _ (zero : n ≡ 0) (f : Bool) (ef : f ≡ rightForm s) where
-        pub row-blocks : (r : Checked) → not f ≡ true → r ≡ refused 13 → r ≡ checkOf s
-        unfolding checkOf
-        row-blocks r t p = rw (number-is, zero, ← ef, t) p
+        formed : checkOf s ≡ byFirst refusedMessage (acceptedMessage s) last
+        unfolding headerRows
+        formed = sized ∙ none-by refusedMessage (acceptedMessage s) (headerRows h) last n en refl zero
+
+        pub row-blocks : (r : Checked) → not f ≡ true → r ≡ refusedMessage dropBlocks → r ≡ checkOf s
+        unfolding byFirst
+        row-blocks r t p = rw (formed, ← ef, t) p
 
         pub row-none : (b : Blocks) → not f ≡ false → b ≡ blocksSeen s → record { number = 0; header = h; blocks = b } ≡ checkOf s
-        unfolding checkOf accepted
-        row-none b t eb = rw (number-is, zero, ← ef, t, ← eb, ← eh)
+        unfolding byFirst acceptedMessage
+        row-none b t eb = rw (formed, ← ef, t, ← eb, ← eh)

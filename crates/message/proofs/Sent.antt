@@ -2,16 +2,15 @@
 -- more and the same header but for the type; sent on as a Request it is accepted by the next router.
 use Prim.Native.Nat.{ℕ, _+_, _≤_, _<_}
 use mathlib.Core.Path.{_≡_, ap, _∙_}
-use mathlib.Core.Bool.{true}
 use mathlib.Core.List.{List, [], _∷_, _++_}
 use native.Mathlib.Omega.{arith}
 use lib.ListN.{length, set, length-append, length-set}
 use Rattle.message.specs.Format.{most, request, standardSize}
-use Rattle.message.specs.Header.{headerOf}
-use Rattle.message.specs.Blocks.{standards, standardCount, lastStandard, requestForm, StandardBlock}
-use Rattle.message.proofs.Fields.{retyped}
-use Rattle.message.proofs.Append.{append-standards, append-last, append-count, right-form-fills, append-right-form, append-header}
-use Rattle.message.proofs.Write.{typed-blocks, typed-standards, typed-form, typed-header, same-request-form}
+use Rattle.message.specs.Header.{headerOf, retyped}
+use Rattle.message.specs.Inside.{StandardBlock}
+use Rattle.message.specs.Blocks.{standards, standardCount}
+use Rattle.message.proofs.Append.{append-standards, append-count, right-form-fills, append-right-form, append-header}
+use Rattle.message.proofs.Write.{typed-standards, typed-form, typed-header}
 use Rattle.message.proofs.Accept.{Accepted}
 
 module _ (s : List ℕ) (a : Accepted s) (block : List ℕ) (b : StandardBlock block) where
@@ -30,15 +29,6 @@ module _ (s : List ℕ) (a : Accepted s) (block : List ℕ) (b : StandardBlock b
 
     pub sent-count : standardCount (set (s ++ block) 0 v) ≡ standardCount s + 1
     sent-count = rw (typed-standards (s ++ block) v) (append-count s block (a .low) (right-form-fills s (a .form)) b)
-
-    pub sent-last : lastStandard (set (s ++ block) 0 v) ≡ length s
-    sent-last = rw (typed-standards (s ++ block) v) (append-last s block (a .low) (right-form-fills s (a .form)) b)
-
-    -- it has the form of a Request and of a Reply
-    pub sent-form : requestForm (set (s ++ block) 0 v) ≡ true
-    sent-form =
-        same-request-form (s ++ block) (set (s ++ block) 0 v) (typed-blocks (s ++ block) v) (length-set (s ++ block) 0 v)
-        ∙ append-right-form s (a .form) block (a .low) b
 
   pub sent-accepted : length s + standardSize ≤ most → Accepted (set (s ++ block) 0 request)
   sent-accepted room =

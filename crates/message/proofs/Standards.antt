@@ -6,15 +6,13 @@ use mathlib.Core.List.{List, [], _∷_}
 use mathlib.Core.Logic.{⊎-elim}
 use native.Mathlib.Omega.{arith}
 use borrow.Author.Tests.{eqb-true}
-use lib.Dec.{eqb, lit≤}
+use lib.Dec.{eqb}
 use lib.ListN.{length, getD, drop, length-drop}
-use lib.Seq.{length-take-le, getD-take, drop-drop}
 use Rattle.wire.specs.Numbers.{byteAt, be16}
-use Rattle.wire.specs.Parts.{part}
-use Rattle.wire.proofs.Laws.{be-part}
 use Rattle.message.specs.Format.{headerSize, standard, standardSize}
-use Rattle.message.specs.Blocks.{Block, blockAt, begins, blocksFrom, blocksOf, totalSize, standardPlaces, lastOr, standards, standardCount, standardAt, lastStandard, blocksEnd, StandardBlock}
-use Rattle.rows.proofs.Tests.{decided}
+use Rattle.message.specs.Inside.{standardAt}
+use Rattle.message.specs.Blocks.{Placed, placedAt, begins, blocksFrom, blocksOf, totalSize, standardPlaces, lastOr, standards, standardCount, lastStandard}
+use Rattle.rows.proofs.Laws.{decided}
 use Rattle.message.proofs.Cut.{begun, no-blocks, block-first, by-blocks}
 use Rattle.message.proofs.Turns.{standard-more, standard-same}
 
@@ -24,14 +22,14 @@ unfolding standardPlaces
 no-places at rest b = rw (no-blocks at rest b)
 
 module _ (at : ℕ) (rest : List ℕ) (b : begins rest ≡ true) where
-  abbrev behind : List Block
+  abbrev behind : List Placed
   behind = blocksFrom (at + be16 rest 1) (drop (be16 rest 1) rest)
 
   pub places-more : eqb (byteAt rest 0) standard ≡ true → standardPlaces (blocksFrom at rest) ≡ at ∷ standardPlaces behind
-  places-more k = rw (block-first at rest b) (standard-more (blockAt at rest) behind k)
+  places-more k = rw (block-first at rest b) (standard-more (placedAt at rest) behind k)
 
   pub places-same : eqb (byteAt rest 0) standard ≡ false → standardPlaces (blocksFrom at rest) ≡ standardPlaces behind
-  places-same k = rw (block-first at rest b) (standard-same (blockAt at rest) behind k)
+  places-same k = rw (block-first at rest b) (standard-same (placedAt at rest) behind k)
 
 -- the rule of the type 4 blocks: what holds of one that stands in front, and goes on from behind a block to the whole,
 -- holds of every one
@@ -100,35 +98,6 @@ place-inside =
     record { low = omega arith; high = omega (arith, g .inside, g .standard-size k) })
     (λ at rest p b i. record { low = omega (arith, i .low); high = omega (arith, i .low, i .high, begun rest b .inside, length-drop (be16 rest 1) rest) })
 
--- each is a type 4 block
-record Whole (at : ℕ) (rest : List ℕ) (p : ℕ) : Type 0 where
-  low : at ≤ p
-  block : StandardBlock (part (p - at) standardSize rest)
-
-place-whole : (at : ℕ) (rest : List ℕ) (k : ℕ) → k < length (standardPlaces (blocksFrom at rest))
-    → Whole at rest (getD (standardPlaces (blocksFrom at rest)) k 0)
-place-whole =
-    by-standard Whole
-    (λ at rest b k.
-    let g = begun rest b in
-    let here : at - at ≡ 0 = omega arith in
-    record {
-      low = omega arith;
-      block =
-          rw here
-          (record {
-            long = length-take-le standardSize rest (omega (arith, g .inside, g .standard-size k));
-            kind = getD-take standardSize rest 0 0 (lit≤ tt) ∙ k;
-            size = be-part 1 rest 0 standardSize 1 (lit≤ tt) ∙ g .standard-size k;
-          });
-    })
-    (λ at rest p b w.
-    let there : p - at ≡ be16 rest 1 + (p - (at + be16 rest 1)) = omega (arith, w .low) in
-    record {
-      low = omega (arith, w .low);
-      block = rw (there, ← drop-drop (p - (at + be16 rest 1)) (be16 rest 1) rest) (w .block);
-    })
-
 -- the last of some places
 last-of : (none : ℕ) (places : List ℕ) → 0 < length places → lastOr none places ≡ getD places (length places - 1) 0
 unfolding lastOr
@@ -141,10 +110,6 @@ last-of none (p ∷ q ∷ places) h =
 
 -- of a message
 module _ (s : List ℕ) where
-  pub blocks-inside : headerSize ≤ length s → blocksEnd s ≤ length s
-  unfolding blocksEnd blocksOf
-  blocks-inside low = omega (arith, sizes-inside headerSize (drop headerSize s), length-drop headerSize s)
-
   pub standards-fit : headerSize ≤ length s → headerSize + standardSize * standardCount s ≤ length s
   unfolding standards blocksOf
   standards-fit low =
@@ -157,13 +122,6 @@ module _ (s : List ℕ) where
   pub standard-high : headerSize ≤ length s → (k : ℕ) → k < standardCount s → standardAt s k + standardSize ≤ length s
   unfolding standards blocksOf
   standard-high low k h = omega (arith, place-inside headerSize (drop headerSize s) k h .high, length-drop headerSize s)
-
-  pub standard-block : (k : ℕ) → k < standardCount s → StandardBlock (part (standardAt s k) standardSize s)
-  unfolding standards blocksOf
-  standard-block k h =
-      let w = place-whole headerSize (drop headerSize s) k h in
-      let there : standardAt s k ≡ headerSize + (standardAt s k - headerSize) = omega (arith, w .low) in
-      rw (there, ← drop-drop (standardAt s k - headerSize) headerSize s) (w .block)
 
   pub last-is : 0 < standardCount s → lastStandard s ≡ standardAt s (standardCount s - 1)
   last-is h = last-of 0 (standards s) h

@@ -12,21 +12,21 @@ use lib.Dec.{eqb}
 use lib.ListN.{length, drop, length-drop}
 use lib.Seq.{getD-drop, drop-drop}
 use Rattle.wire.specs.Numbers.{byteAt, be16}
-use Rattle.rows.proofs.Tests.{cond-cases, decided, both-of}
+use Rattle.rows.proofs.Laws.{cond-cases, decided, both-of}
 use Rattle.wire.proofs.Laws.{be-drop}
 use Rattle.message.specs.declared.Blocks.{Blocks}
 use Rattle.message.specs.Format.{headerSize, standard, augmentedLeast}
-use Rattle.message.specs.Blocks.{Block, blockAt, begins, rightSize, fitsIn, blocksFrom, blocksOf, totalSize, standardPlaces, lastOr, standards, blocksEnd}
-use Rattle.message.specs.Check.{blocksSeen}
+use Rattle.message.specs.Blocks.{Placed, placedAt, begins, rightSize, fitsIn, blocksFrom, blocksOf, totalSize, standardPlaces, lastOr, standards, blocksEnd}
+use Rattle.message.specs.Inside.{blocksSeen}
 use Rattle.message.proofs.Cut.{size-right, too-short, no-blocks, block-first}
 
 -- what was found up to a place, joined with the blocks from there on
-unfoldable pub joined : ℕ → ℕ → ℕ → List Block → Blocks
+unfoldable pub joined : ℕ → ℕ → ℕ → List Placed → Blocks
 joined at count last blocks =
     record { end = at + totalSize blocks; count = count + length (standardPlaces blocks); last = lastOr last (standardPlaces blocks) }
 
 -- a block of type 4 is counted, any other is not
-module _ (block : Block) (others : List Block) where
+module _ (block : Placed) (others : List Placed) where
   pub standard-more : eqb (block .kind) standard ≡ true → standardPlaces (block ∷ others) ≡ block .at ∷ standardPlaces others
   unfolding standardPlaces
   standard-more e = rw e
@@ -36,7 +36,7 @@ module _ (block : Block) (others : List Block) where
   standard-same e = rw e
 
 -- the first block taken over into what was found
-joined-first : (block : Block) (count last : ℕ) (others : List Block)
+joined-first : (block : Placed) (count last : ℕ) (others : List Placed)
     → joined (block .at) count last (block ∷ others)
     ≡ joined (block .at + block .size) (cond (eqb (block .kind) standard) (count + 1) count) (cond (eqb (block .kind) standard) (block .at) last) others
 unfolding joined totalSize lastOr
@@ -93,7 +93,7 @@ module _ (s : List ℕ) (at count last : ℕ) (so-far : blocksSeen s ≡ joined 
         rw (
           so-far,
           block-first at (drop at s) (begins-by ∙ not-false fits n),
-          joined-first (blockAt at (drop at s)) count last (blocksFrom (at + be16 (drop at s) 1) (drop (be16 (drop at s) 1) (drop at s))),
+          joined-first (placedAt at (drop at s)) count last (blocksFrom (at + be16 (drop at s) 1) (drop (be16 (drop at s) 1) (drop at s))),
           drop-drop,
           be-drop 1 s at 1,
           getD-drop at s 0 0,

@@ -1,16 +1,16 @@
 -- The blocks behind the header (document 01, "Messages"): a message is cut into blocks by stepping from each to the next by
 -- its length, and all that is said of blocks is said of that list.
 use Prim.Native.Nat.{ℕ, zero, suc, _+_, _%_}
-use mathlib.Core.Path.{_≡_}
 use mathlib.Core.Bool.{Bool, false, cond, _&&_, _||_}
-use mathlib.Core.List.{List, [], _∷_}
+use mathlib.Core.List.{List, [], _∷_, map}
 use lib.Dec.{leb, eqb}
-use lib.ListN.{length, getD, drop}
+use lib.ListN.{length, drop, set}
 use Rattle.wire.specs.Numbers.{byteAt, be16}
-use Rattle.message.specs.Format.{headerSize, query, standard, augmented, standardSize, augmentedLeast, augmentedUnit}
+use Rattle.wire.specs.Parts.{part}
+use Rattle.message.specs.Format.{headerSize, query, standard, augmented, standardSize, codeOffset, augmentedLeast, augmentedUnit}
 
 -- a block of a message: its place, its type, and its whole length
-pub record Block : Type 0 where
+pub record Placed : Type 0 where
   pub at : ℕ
   pub kind : ℕ
   pub size : ℕ
@@ -26,36 +26,36 @@ unfoldable pub fitsIn : ℕ → ℕ → ℕ → Bool
 fitsIn kind size left = rightSize kind size && leb size left
 
 -- the block that `rest`, the bytes of a message from a place on, should begin with: type (1 byte), length (2 bytes)
-abbrev pub blockAt : ℕ → List ℕ → Block
-blockAt at rest = record { at = at; kind = byteAt rest 0; size = be16 rest 1 }
+abbrev pub placedAt : ℕ → List ℕ → Placed
+placedAt at rest = record { at = at; kind = byteAt rest 0; size = be16 rest 1 }
 
 -- whether it does: no block is so short that it fits where fewer than 3 bytes are left
 unfoldable pub begins : List ℕ → Bool
 begins rest = fitsIn (byteAt rest 0) (be16 rest 1) (length rest)
 
 -- the blocks that `rest` begins with, as far as they go, in at most so many turns
-unfoldable pub blocksBy : ℕ → ℕ → List ℕ → List Block
+unfoldable pub blocksBy : ℕ → ℕ → List ℕ → List Placed
 blocksBy zero at rest = []
 blocksBy (suc turns) at rest =
-    let block : Block = blockAt at rest in
-    let others : List Block = blocksBy turns (at + block .size) (drop (block .size) rest) in
+    let block : Placed = placedAt at rest in
+    let others : List Placed = blocksBy turns (at + block .size) (drop (block .size) rest) in
     cond (begins rest) (block ∷ others) []
 
 -- the same in as many turns as there are bytes, which are enough
-unfoldable pub blocksFrom : ℕ → List ℕ → List Block
+unfoldable pub blocksFrom : ℕ → List ℕ → List Placed
 blocksFrom at rest = blocksBy (length rest) at rest
 
 -- the blocks of a message
-unfoldable pub blocksOf : List ℕ → List Block
+unfoldable pub blocksOf : List ℕ → List Placed
 blocksOf s = blocksFrom headerSize (drop headerSize s)
 
 -- the bytes of some blocks together
-unfoldable pub totalSize : List Block → ℕ
+unfoldable pub totalSize : List Placed → ℕ
 totalSize [] = 0
 totalSize (block ∷ others) = block .size + totalSize others
 
 -- the places of those of type 4. Augmented blocks are carried and not counted.
-unfoldable pub standardPlaces : List Block → List ℕ
+unfoldable pub standardPlaces : List Placed → List ℕ
 standardPlaces [] = []
 standardPlaces (block ∷ others) =
     let places : List ℕ = standardPlaces others in
@@ -74,11 +74,7 @@ standards s = standardPlaces (blocksOf s)
 abbrev pub standardCount : List ℕ → ℕ
 standardCount s = length (standards s)
 
--- the place of type 4 block k, counted from 0
-abbrev pub standardAt : List ℕ → ℕ → ℕ
-standardAt s k = getD (standards s) k 0
-
--- the last of them, 0 where there are none
+-- the place of the last of them, 0 where there are none
 abbrev pub lastStandard : List ℕ → ℕ
 lastStandard s = lastOr 0 (standards s)
 
@@ -87,7 +83,7 @@ unfoldable pub blocksEnd : List ℕ → ℕ
 blocksEnd s = headerSize + totalSize (blocksOf s)
 
 -- there are blocks, and the first is of type 4
-unfoldable pub standardFirst : List Block → Bool
+unfoldable pub standardFirst : List Placed → Bool
 standardFirst [] = false
 standardFirst (block ∷ others) = eqb (block .kind) standard
 
@@ -107,8 +103,12 @@ requestForm s = fillsMessage s && standardFirst (blocksOf s)
 unfoldable pub rightForm : List ℕ → Bool
 rightForm s = cond (eqb (byteAt s 0) query) (queryForm s) (requestForm s)
 
--- the bytes of a type 4 block: 52, which begin with its type and its length
-pub record StandardBlock (bytes : List ℕ) : Type 0 where
-  pub long : length bytes ≡ standardSize
-  pub kind : byteAt bytes 0 ≡ standard
-  pub size : be16 bytes 1 ≡ standardSize
+-- the type 4 blocks of a message as bytes, in their order
+unfoldable pub standardBlocks : List ℕ → List (List ℕ)
+standardBlocks s = map (λ at. part at standardSize s) (standards s)
+
+-- some blocks, with a forwarding code written into the last of them
+unfoldable pub lastCoded : ℕ → List (List ℕ) → List (List ℕ)
+lastCoded code [] = []
+lastCoded code (block ∷ []) = set block codeOffset code ∷ []
+lastCoded code (block ∷ other ∷ others) = block ∷ lastCoded code (other ∷ others)

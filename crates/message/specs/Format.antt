@@ -44,3 +44,7 @@ augmentedLeast = 8
 -- and a multiple of so many
 abbrev pub augmentedUnit : ℕ
 augmentedUnit = 4
+
+-- bytes of the answer record that goes with a message sent
+abbrev pub noteSize : ℕ
+noteSize = 16

@@ -23,6 +23,11 @@ headerOf s =
       port = be16 s 18;
     }
 
+-- a header with another type
+abbrev pub retyped : ℕ → Header → Header
+retyped v h =
+    record { kind = v; length = h .length; hops = h .hops; group = h .group; source = h .source; client = h .client; id = h .id; port = h .port }
+
 -- a Query or a Request, which are what a router takes
 abbrev pub queryOrRequest : Header → Bool
 queryOrRequest h = eqb (h .kind) query || eqb (h .kind) request

@@ -4,3 +4,4 @@ pub mod Header
 pub mod Blocks
 pub mod Room
 pub mod Check
+pub mod Inside

@@ -1,32 +1,65 @@
 // Messages as they arrive: the header read, the blocks walked once, and every rule checked.
 ghost use mathlib.Core.Path.{_≡_};
-ghost use mathlib.Core.Bool.{true, cond};
+ghost use mathlib.Core.Bool.{cond};
 ghost use Prim.Native.Nat.{_≤_};
 ghost use lib.ListN.{length};
 ghost use Rattle.message.specs.Format.{headerSize};
 ghost use Rattle.message.specs.Header.{headerOf};
 ghost use Rattle.message.specs.Blocks.{fitsIn, rightForm, blocksEnd};
-ghost use Rattle.message.specs.Check.{firstRow, blocksSeen, refused, checkOf};
+ghost use Rattle.rows.specs.Rows.{firstOf};
+ghost use Rattle.message.specs.Check.{headerRows};
+ghost use Rattle.message.specs.Inside.{blocksSeen, refusedMessage, checkOf};
 
-const HEADER_SIZE: usize = 20;
+pub const HEADER_SIZE: usize = 20;
 
-const HEADER_LENGTH: u16 = 20;
+// The same, as the header says it of itself.
+const HEADER_LENGTH: u16 = HEADER_SIZE as u16;
 
-const MOST: usize = 1472;
+pub const MOST: usize = 1472;
 
-const QUERY: u8 = 1;
+pub const QUERY: u8 = 1;
 
-const REQUEST: u8 = 2;
+pub const REQUEST: u8 = 2;
 
-const STANDARD: u8 = 4;
+pub const REPLY: u8 = 3;
+
+pub const STANDARD: u8 = 4;
 
 const AUGMENTED: u8 = 5;
 
-const STANDARD_SIZE: usize = 52;
+pub const STANDARD_SIZE: usize = 52;
+
+// The place of the forwarding code in a Standard Response Block.
+pub const CODE_OFFSET: usize = 51;
 
 const AUGMENTED_LEAST: usize = 8;
 
 const AUGMENTED_UNIT: usize = 4;
+
+// Bytes of the answer record that goes with a message sent.
+pub const NOTE_SIZE: usize = 16;
+
+// A block has at least its type and its length.
+const BLOCK_HEAD: usize = 3;
+
+// The drop numbers of a message by itself.
+const DROP_SIZE: u32 = 5;
+
+const DROP_TYPE: u32 = 6;
+
+const DROP_HEADER: u32 = 7;
+
+const DROP_HOPS: u32 = 8;
+
+const DROP_GROUP: u32 = 9;
+
+const DROP_SOURCE: u32 = 10;
+
+const DROP_PAIR: u32 = 11;
+
+const DROP_CLIENT: u32 = 12;
+
+const DROP_BLOCKS: u32 = 13;
 
 // The header of a message. `kind` is its type, `group` the multicast address.
 pub struct Header {
@@ -78,19 +111,20 @@ fn row(applies: bool, number: u32, after: u32) -> u32
     if applies { number } else { after }
 }
 
-// The first of rows 6 to 12 that applies to a header, or 0: the number of a message of right size and form that has it.
-// The last row comes first here: each is handed what the rows after it give.
+// The first of the rows on a header, 6 to 12, that applies, or 0. The last row comes first here: each is handed what the rows
+// after it give.
 fn header_number(h: Header) -> u32
-    ensures { λ r. ⌜ r ≡ firstRow headerSize h true ⌝ }
+    ensures { λ r. ⌜ r ≡ firstOf (headerRows h) ⌝ }
 {
     let no_group = wire::all_ones(h.group);
     let no_source = wire::all_ones(h.source);
-    let client = row(!(wire::unicast(h.client) & (h.port != 0)), 12, 0);
-    let pair = row(no_group & no_source, 11, client);
-    let source = row(!(wire::unicast(h.source) | no_source), 10, pair);
-    let group = row(!(wire::multicast(h.group) | no_group), 9, source);
-    let length = row(h.length != HEADER_LENGTH, 7, row(h.hops == 0, 8, group));
-    row(!((h.kind == QUERY) | (h.kind == REQUEST)), 6, length)
+    let client = row(!(wire::unicast(h.client) & (h.port != 0)), DROP_CLIENT, 0);
+    let pair = row(no_group & no_source, DROP_PAIR, client);
+    let source = row(!(wire::unicast(h.source) | no_source), DROP_SOURCE, pair);
+    let group = row(!(wire::multicast(h.group) | no_group), DROP_GROUP, source);
+    let hops = row(h.hops == 0, DROP_HOPS, group);
+    let size = row(h.length != HEADER_LENGTH, DROP_HEADER, hops);
+    row(!((h.kind == QUERY) | (h.kind == REQUEST)), DROP_TYPE, size)
 }
 
 // Whether a block of that type and length fits in the bytes that are left.
@@ -117,7 +151,7 @@ pub fn blocks_of(s: &[u8]) -> Blocks
     let mut at: usize = HEADER_SIZE;
     let mut count: usize = 0;
     let mut last: usize = 0;
-    while 3 <= s.len() - at {
+    while BLOCK_HEAD <= s.len() - at {
         let kind = s[at];
         let size = wire::be16(s, at + 1) as usize;
         if !fits_in(kind, size, s.len() - at) {
@@ -154,7 +188,7 @@ fn right_form(s: &[u8], end: usize) -> bool
 
 // The answer for a message that is refused.
 fn refused(number: u32) -> Checked
-    ensures { λ r. ⌜ r ≡ refused number ⌝ }
+    ensures { λ r. ⌜ r ≡ refusedMessage number ⌝ }
 {
     let header = Header {
         kind: 0,
@@ -183,10 +217,10 @@ pub fn check(s: &[u8]) -> Checked
     ensures { λ r. ⌜ r ≡ checkOf (now (s .entry)) ⌝ }
 {
     if s.len() < HEADER_SIZE {
-        return refused(5);
+        return refused(DROP_SIZE);
     }
     if MOST < s.len() {
-        return refused(5);
+        return refused(DROP_SIZE);
     }
     let header = header_of(s);
     let number = header_number(header);
@@ -195,7 +229,7 @@ pub fn check(s: &[u8]) -> Checked
     }
     let blocks = blocks_of(s);
     if !right_form(s, blocks.end) {
-        return refused(13);
+        return refused(DROP_BLOCKS);
     }
     Checked {
         number: 0,

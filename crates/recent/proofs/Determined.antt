@@ -1,19 +1,16 @@
--- Two answers that meet a function's promise are equal. Each promise here is an equation, so one law serves all.
-use Prim.Native.Nat.{ℕ}
-use mathlib.Core.Bool.{Bool}
-use mathlib.Core.List.{List}
+-- Two answers that meet a function's promise are equal: what each ensures is an equation.
+use denote.Ref.{now}
 use mathlib.Core.Path.{_≡_}
-use Rattle.wire.proofs.Determined.{both-are}
-use Rattle.recent.specs.Layout.{wellFormed}
-use Rattle.recent.specs.Entries.{seenIn, enteredIn}
+use Rattle.wire.proofs.Laws.{both-are}
+use Rattle.recent.proofs.check.Reads as check
+use Rattle.recent.proofs.seen.Reads as seen
+use Rattle.recent.proofs.enter.Reads as enter
 
-module _ (list : List ℕ) where
-  pub check-determined : (a b : Bool) → a ≡ wellFormed list → b ≡ wellFormed list → a ≡ b
-  check-determined a b = both-are
+pub check-determined : (κs : _) (a : _) (x y : _) (e f : _) → check.Post κs a x e → check.Post κs a y f → x ≡ y
+check-determined κs a x y e f p q = both-are p q
 
-  module _ (client id : ℕ) where
-    pub seen-determined : (a b : Bool) → a ≡ seenIn list client id → b ≡ seenIn list client id → a ≡ b
-    seen-determined a b = both-are
+pub seen-determined : (κs : _) (a : _) (x y : _) (e f : _) → seen.Post κs a x e → seen.Post κs a y f → x ≡ y
+seen-determined κs a x y e f p q = both-are p q
 
-    pub enter-determined : (a b : List ℕ) → a ≡ enteredIn list client id → b ≡ enteredIn list client id → a ≡ b
-    enter-determined a b = both-are
+pub enter-determined : (κs : _) (a : _) (x y : _) (e f : _) → enter.Post κs a x e → enter.Post κs a y f → now (e .0) ≡ now (f .0)
+enter-determined κs a x y e f p q = both-are p q

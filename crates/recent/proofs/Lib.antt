@@ -1,4 +1,4 @@
--- Laws that this crate's proofs and the crates above cite.
-pub mod Turns
+-- Laws that the crates above cite; and `Determined`: each promise leaves one answer.
+mod Turns
 pub mod Laws
 pub mod Determined

@@ -9,9 +9,10 @@ use borrow.Author.Tests.{ne-eqb, eq-eqb}
 use lib.ListN.{length, drop, set, length-append, drop-of-length-le}
 use lib.Seq.{drop-cons, sets-eq}
 use Rattle.wire.specs.Numbers.{byteAt, bytes32, bytes16}
-use Rattle.recent.specs.Layout.{allZero, used, next, entryPlace, Formed}
-use Rattle.recent.specs.Entries.{entryAt, firstEntries, isOf, someIsOf, seenIn, grown, movedOn, enteredIn}
-use Rattle.wire.specs.Parts.{splice}
+use Rattle.recent.specs.Layout.{clientSize, used, next, recentPlace}
+use Rattle.recent.specs.Inside.{Formed}
+use Rattle.recent.specs.Entries.{recentEntry, firstEntries, isOf, someIsOf, seenIn, grown, movedOn, enteredIn}
+use Rattle.wire.specs.Parts.{splice, allZero}
 use Rattle.wire.proofs.Laws.{length-bytes, length-splice, splice-join, splice-front}
 
 -- a byte and the bytes after it
@@ -30,17 +31,17 @@ zero-ended s at i e h = rw (e, drop-of-length-le s {i = i} h)
 
 -- the first k entries are the last of them and those before it
 one-more : (s : List ℕ) (client id k : ℕ) → 0 < k
-    → someIsOf (firstEntries s k) client id ≡ (isOf (entryAt s (k - 1)) client id || someIsOf (firstEntries s (k - 1)) client id)
+    → someIsOf (firstEntries s k) client id ≡ (isOf (recentEntry s (k - 1)) client id || someIsOf (firstEntries s (k - 1)) client id)
 unfolding firstEntries someIsOf
 one-more s client id zero h = absurd (omega arith)
 one-more s client id (suc k) h = let e : suc k - 1 ≡ k = omega arith in rw e
 
 -- the entries in use are looked at from the last to the first: what is left of the answer is that of the first k
 module _ (s : List ℕ) (client id k : ℕ) (so-far : seenIn s client id ≡ someIsOf (firstEntries s k) client id) where
-  pub seen-found : (b : Bool) → 0 < k → b ≡ isOf (entryAt s (k - 1)) client id → b ≡ true → true ≡ seenIn s client id
+  pub seen-found : (b : Bool) → 0 < k → b ≡ isOf (recentEntry s (k - 1)) client id → b ≡ true → true ≡ seenIn s client id
   seen-found b h e t = rw (so-far, one-more s client id k h, ← e, t)
 
-  pub seen-on : (b : Bool) → 0 < k → b ≡ isOf (entryAt s (k - 1)) client id → b ≡ false
+  pub seen-on : (b : Bool) → 0 < k → b ≡ isOf (recentEntry s (k - 1)) client id → b ≡ false
       → seenIn s client id ≡ someIsOf (firstEntries s (k - 1)) client id
   seen-on b h e f = rw (so-far, one-more s client id k h, ← e, f)
 
@@ -50,15 +51,15 @@ module _ (s : List ℕ) (client id k : ℕ) (so-far : seenIn s client id ≡ som
 
 -- the stores of `enter`, in its order
 module _ (s : List ℕ) (f : Formed s) (client id : ℕ) where
-  pub entry-fits : entryPlace (next s) + length (bytes32 client ++ bytes16 id) ≤ length s
+  pub entry-fits : recentPlace (next s) + length (bytes32 client ++ bytes16 id) ≤ length s
   entry-fits = simp length-append (omega (arith, f .whole, f .within, length-bytes 2 client, length-bytes 1 id))
 
-  pub entered-by : (a b : List ℕ) (at u n : ℕ) → at ≡ entryPlace (next s) → a ≡ splice s at (bytes32 client)
-      → b ≡ splice a (at + 4) (bytes16 id) → u ≡ grown (used s) → n ≡ movedOn (next s) → set (set b 0 u) 1 n ≡ enteredIn s client id
+  pub entered-by : (a b : List ℕ) (at u n : ℕ) → at ≡ recentPlace (next s) → a ≡ splice s at (bytes32 client)
+      → b ≡ splice a (at + clientSize) (bytes16 id) → u ≡ grown (used s) → n ≡ movedOn (next s) → set (set b 0 u) 1 n ≡ enteredIn s client id
   unfolding enteredIn
   entered-by a b at u n e p q eu en =
       let fits : at + length (bytes32 client) ≤ length s = omega (arith, f .whole, f .within, length-bytes 2 client) in
       let joined : b ≡ splice s at (bytes32 client ++ bytes16 id) =
       rw (q, p, ← length-bytes 2 client) (splice-join s at (bytes32 client) fits (bytes16 id)) in
-      let long : 2 ≤ length b = rw (joined, e, length-splice s (entryPlace (next s)) (bytes32 client ++ bytes16 id) entry-fits, f .whole) (omega arith) in
+      let long : 2 ≤ length b = rw (joined, e, length-splice s (recentPlace (next s)) (bytes32 client ++ bytes16 id) entry-fits, f .whole) (omega arith) in
       sets-eq (u ∷ n ∷ []) b 0 long ∙ rw (eu, en, joined, e) (sym (splice-front _ (grown (used s) ∷ movedOn (next s) ∷ [])))

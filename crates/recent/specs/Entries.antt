@@ -6,7 +6,7 @@ use lib.Dec.{eqb}
 use lib.ListN.{replicate}
 use Rattle.wire.specs.Numbers.{be16, be32, bytes16, bytes32}
 use Rattle.wire.specs.Parts.{splice}
-use Rattle.recent.specs.Layout.{clientSize, entryCount, listSize, used, next, entryPlace}
+use Rattle.recent.specs.Layout.{clientSize, entryCount, listSize, used, next, recentPlace}
 
 -- a Query that was accepted, by the client's address and the query id
 pub record Entry : Type 0 where
@@ -14,14 +14,14 @@ pub record Entry : Type 0 where
   pub id : ℕ
 
 -- entry k of a list
-abbrev pub entryAt : List ℕ → ℕ → Entry
-entryAt list k =
-    record { client = be32 list (entryPlace k); id = be16 list (entryPlace k + clientSize) }
+abbrev pub recentEntry : List ℕ → ℕ → Entry
+recentEntry list k =
+    record { client = be32 list (recentPlace k); id = be16 list (recentPlace k + clientSize) }
 
 -- the first n entries of a list, the last of them in front
 unfoldable pub firstEntries : List ℕ → ℕ → List Entry
 firstEntries list zero = []
-firstEntries list (suc k) = entryAt list k ∷ firstEntries list k
+firstEntries list (suc k) = recentEntry list k ∷ firstEntries list k
 
 -- the entries in use
 abbrev pub entries : List ℕ → List Entry
@@ -51,7 +51,7 @@ movedOn k = (k + 1) % entryCount
 -- the list after a Query is accepted: its client and id are written at next, which moves on, and used grows
 unfoldable pub enteredIn : List ℕ → ℕ → ℕ → List ℕ
 enteredIn list client id =
-    splice (splice list (entryPlace (next list)) (bytes32 client ++ bytes16 id)) 0
+    splice (splice list (recentPlace (next list)) (bytes32 client ++ bytes16 id)) 0
     (grown (used list) ∷ movedOn (next list) ∷ [])
 
 -- a list with no entry

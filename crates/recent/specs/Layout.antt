@@ -1,12 +1,12 @@
 -- The recent list as it is lent (document 01, below the drop table): 196 bytes of used, next, two zeros, and 32 entries
 -- of client and id, the unused ones zero.
-use Prim.Native.Nat.{ℕ, _+_, _*_, _≤_, _<_}
-use mathlib.Core.Bool.{Bool, true, _&&_, _||_}
-use mathlib.Core.List.{List, [], _∷_}
-use mathlib.Core.Path.{_≡_}
+use Prim.Native.Nat.{ℕ, _+_, _*_}
+use mathlib.Core.Bool.{Bool, _&&_, _||_}
+use mathlib.Core.List.{List}
 use lib.Dec.{leb, ltb, eqb}
 use lib.ListN.{length, drop}
 use Rattle.wire.specs.Numbers.{byteAt}
+use Rattle.wire.specs.Parts.{allZero}
 
 -- the bytes before the entries: used, next, two zeros
 abbrev pub headSize : ℕ
@@ -37,13 +37,8 @@ abbrev pub next : List ℕ → ℕ
 next list = byteAt list 1
 
 -- where entry k begins
-abbrev pub entryPlace : ℕ → ℕ
-entryPlace k = headSize + entrySize * k
-
--- every byte is zero
-unfoldable pub allZero : List ℕ → Bool
-allZero [] = true
-allZero (byte ∷ rest) = eqb byte 0 && allZero rest
+abbrev pub recentPlace : ℕ → ℕ
+recentPlace k = headSize + entrySize * k
 
 -- a list that is not malformed: exactly 196 bytes; used 0 to 32; next 0 to 31, equal to used while used < 32; two zeros;
 -- the bytes past the used entries zero. The used entries may hold anything.
@@ -55,10 +50,4 @@ wellFormed list =
     && (eqb (used list) entryCount || eqb (next list) (used list))
     && eqb (byteAt list 2) 0
     && eqb (byteAt list 3) 0
-    && allZero (drop (entryPlace (used list)) list)
-
--- the sizes of a well-formed list, which is all that reading and writing it need
-pub record Formed (list : List ℕ) : Type 0 where
-  pub whole : length list ≡ listSize
-  pub few : used list ≤ entryCount
-  pub within : next list < entryCount
+    && allZero (drop (recentPlace (used list)) list)

@@ -2,11 +2,12 @@
 ghost use mathlib.Core.Path.{_≡_};
 ghost use Prim.Native.Nat.{_+_, _<_, _≤_};
 ghost use lib.ListN.{length, drop};
-ghost use Rattle.recent.specs.Layout.{allZero, wellFormed, Formed, entryPlace, entrySize, entryCount};
-ghost use Rattle.recent.specs.Entries.{entryAt, isOf, seenIn, grown, movedOn, enteredIn};
+ghost use Rattle.wire.specs.Parts.{allZero};
+ghost use Rattle.recent.specs.Layout.{recentPlace, entrySize, entryCount, wellFormed};
+ghost use Rattle.recent.specs.Entries.{recentEntry, isOf, seenIn, grown, movedOn, enteredIn};
+ghost use Rattle.recent.specs.Inside.{Formed};
 
-const LIST_SIZE: usize = 196;
-
+// Bytes of the head, of an entry and of the client in it; the most entries; bytes of the list.
 const HEAD_SIZE: usize = 4;
 
 const ENTRY_SIZE: usize = 6;
@@ -15,9 +16,11 @@ const CLIENT_SIZE: usize = 4;
 
 const ENTRY_COUNT: u8 = 32;
 
+pub const LIST_SIZE: usize = HEAD_SIZE + ENTRY_SIZE * ENTRY_COUNT as usize;
+
 // Where entry k begins.
-fn entry_place(k: u8) -> usize
-    ensures { λ r. ⌜ (r ≡ entryPlace k) × (k < 256) ⌝ }
+fn recent_place(k: u8) -> usize
+    ensures { λ r. ⌜ (r ≡ recentPlace k) × (k < 256) ⌝ }
 {
     HEAD_SIZE + ENTRY_SIZE * (k as usize)
 }
@@ -50,15 +53,15 @@ pub fn check(list: &[u8]) -> bool
         & ((used == ENTRY_COUNT) | (next == used))
         & (list[2] == 0)
         & (list[3] == 0)
-        & zero_from(list, entry_place(used))
+        & zero_from(list, recent_place(used))
 }
 
 // Whether entry k is of this client and this id.
 fn is_of(list: &[u8], k: u8, client: u32, id: u16) -> bool
-    requires { ⌜ entryPlace k + entrySize ≤ length (now list) ⌝ }
-    ensures { λ r. ⌜ r ≡ isOf (entryAt (now (list .entry)) k) client id ⌝ }
+    requires { ⌜ recentPlace k + entrySize ≤ length (now list) ⌝ }
+    ensures { λ r. ⌜ r ≡ isOf (recentEntry (now (list .entry)) k) client id ⌝ }
 {
-    let at = entry_place(k);
+    let at = recent_place(k);
     (wire::be32(list, at) == client) & (wire::be16(list, at + CLIENT_SIZE) == id)
 }
 
@@ -103,7 +106,7 @@ pub fn enter(list: &mut [u8], client: u32, id: u16)
 {
     let used = list[0];
     let next = list[1];
-    let at = entry_place(next);
+    let at = recent_place(next);
     wire::put32(list, at, client);
     wire::put16(list, at + CLIENT_SIZE, id);
     list[0] = grown(used);

@@ -4,8 +4,6 @@
 // Room for more than a list, so that its tail is seen to stay.
 const AREA: usize = 512;
 
-const LIST: isize = 196;
-
 fn check(list: &[u8]) {
     tape::text(b" ->");
     tape::whether(recent::check(list));
@@ -43,7 +41,7 @@ fn call(area: &mut [u8], command: &[u8; 32]) {
     let operation = command[0];
     let client = tape::number32(command, 12);
     let id = tape::number16(command, 22);
-    let n = io::count(LIST, area);
+    let n = io::count(recent::LIST_SIZE as isize, area);
     if operation == 3 {
         tape::text(b" ->");
         tape::whether(seen(&area[..n], client, id));

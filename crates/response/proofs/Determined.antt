@@ -1,33 +1,27 @@
--- Two answers that meet a function's promise are equal. Each promise here is an equation.
-use Prim.Native.Nat.{ℕ}
-use mathlib.Core.Bool.{Bool}
-use mathlib.Core.List.{List}
+-- Two answers that meet what a function ensures are equal.
 use mathlib.Core.Path.{_≡_}
-use Rattle.wire.proofs.Determined.{both-are}
-use Rattle.entry.specs.declared.route.Route.{Route}
-use Rattle.response.specs.declared.Incoming.{Incoming}
-use Rattle.response.specs.declared.View.{View}
-use Rattle.response.specs.declared.Block.{Block}
-use Rattle.response.specs.declared.Note.{Note}
-use Rattle.response.specs.View.{addressOf}
-use Rattle.response.specs.Fill.{upstreamOf, blockOf, endsTrace}
-use Rattle.response.specs.Bytes.{blockBytes, noteBytes}
+use Rattle.wire.proofs.Laws.{both-are}
+use Rattle.response.proofs.address_of.Reads as address-of
+use Rattle.response.proofs.upstream.Reads as upstream
+use Rattle.response.proofs.block_of.Reads as block-of
+use Rattle.response.proofs.ends_trace.Reads as ends-trace
+use Rattle.response.proofs.block_bytes.Reads as block-bytes
+use Rattle.response.proofs.note_bytes.Reads as note-bytes
 
-pub address-of-determined : (i : Incoming) (a b : ℕ) → a ≡ addressOf i → b ≡ addressOf i → a ≡ b
-address-of-determined i a b = both-are
+pub address-of-determined : (κs : _) (a : _) (x y : _) (e f : _) → address-of.Post κs a x e → address-of.Post κs a y f → x ≡ y
+address-of-determined κs a x y e f = both-are
 
-pub upstream-determined : (r : Route) (a b : ℕ) → a ≡ upstreamOf r → b ≡ upstreamOf r → a ≡ b
-upstream-determined r a b = both-are
+pub upstream-determined : (κs : _) (a : _) (x y : _) (e f : _) → upstream.Post κs a x e → upstream.Post κs a y f → x ≡ y
+upstream-determined κs a x y e f = both-are
 
-pub block-of-determined : (v : View) (a b : Block) → a ≡ blockOf v → b ≡ blockOf v → a ≡ b
-block-of-determined v a b = both-are
+pub block-of-determined : (κs : _) (a : _) (x y : _) (e f : _) → block-of.Post κs a x e → block-of.Post κs a y f → x ≡ y
+block-of-determined κs a x y e f = both-are
 
-pub ends-trace-determined : (v : View) (blocks hops : ℕ) (a b : Bool) → a ≡ endsTrace v blocks hops → b ≡ endsTrace v blocks hops → a ≡ b
-ends-trace-determined v blocks hops a b = both-are
+pub ends-trace-determined : (κs : _) (a : _) (x y : _) (e f : _) → ends-trace.Post κs a x e → ends-trace.Post κs a y f → x ≡ y
+ends-trace-determined κs a x y e f = both-are
 
-module _ (a b : List ℕ) where
-  pub block-bytes-determined : (k : Block) → a ≡ blockBytes k → b ≡ blockBytes k → a ≡ b
-  block-bytes-determined k = both-are
+pub block-bytes-determined : (κs : _) (a : _) (x y : _) (e f : _) → block-bytes.Post κs a x e → block-bytes.Post κs a y f → x ≡ y
+block-bytes-determined κs a x y e f = both-are
 
-  pub note-bytes-determined : (n : Note) → a ≡ noteBytes n → b ≡ noteBytes n → a ≡ b
-  note-bytes-determined n = both-are
+pub note-bytes-determined : (κs : _) (a : _) (x y : _) (e f : _) → note-bytes.Post κs a x e → note-bytes.Post κs a y f → x ≡ y
+note-bytes-determined κs a x y e f = both-are

@@ -1,5 +1,6 @@
--- Laws that this crate's proofs and the crates above cite.
-pub mod Rows
-pub mod Stores
+-- The laws that other crates cite, in one place; and that each promise fixes its answer.
 pub mod Laws
 pub mod Determined
+-- A law for each way out of a function, and for what is stored.
+mod Rows
+mod Stores

@@ -1,24 +1,26 @@
 -- A law for each way out of a function: what its tests showed and what its callees answered, and the definition's answer.
 use Prim.Native.Nat.{ℕ, _+_, _≤_, _<_}
-use mathlib.Core.Bool.{Bool, true, false, _||_, cond}
+use mathlib.Core.Bool.{Bool, true, false, _||_}
 use mathlib.Core.Path.{_≡_, refl, sym, ap, subst, _∙_}
 use native.Mathlib.Omega.{arith}
 use lib.Dec.{eqb}
-use Rattle.rows.proofs.Tests.{cond-cases}
+use Rattle.rows.proofs.Laws.{cond-cases}
+use Rattle.entry.specs.Prefix.{addressBits}
 use Rattle.entry.specs.Route.{isRp, groupOnly}
 use Rattle.entry.specs.declared.route.Route.{Route}
 use Rattle.route.specs.declared.Chosen.{Chosen}
 use Rattle.route.specs.declared.Chosen.the-variants.{Found, Nothing}
 use Rattle.response.specs.declared.View.{View}
-use Rattle.response.specs.declared.Tests.{Tests}
 use Rattle.response.specs.declared.Filled.{Filled}
-use Rattle.response.specs.Code.{testsFor, testsOf}
-use Rattle.response.specs.Fill.{sOf, maskOf, filledOf, unfilled, fillFor, RouteFits, endsTrace}
+use Rattle.rows.specs.Rows.{byFirst, firstOf}
+use Rattle.response.specs.Code.{codeWrongLastHop, codeNoRoute, wrongLastHop, codesFor, codes, codeOf}
+use Rattle.response.specs.Inside.{RouteFits}
+use Rattle.response.specs.Fill.{noSourceMask, maskOf, sOf, sBit, sAndMask, filledOf, unfilled, fillFor, endsTrace}
 
 module _ (v : View) (r : Route) (found : v .chosen ≡ Found r) where
-  pub tests-found : (t : Tests) → t ≡ testsFor v (Found r) → t ≡ testsOf v
-  unfolding testsOf
-  tests-found t e = e ∙ ap (testsFor v) (sym found)
+  pub code-found : (code : ℕ) → code ≡ firstOf (codesFor v (Found r)) → code ≡ codeOf v
+  unfolding codes
+  code-found code e = e ∙ ap (λ (w : Chosen). firstOf (codesFor v w)) (sym found)
 
   pub ends-found : (rp : Bool) (blocks hops : ℕ) → rp ≡ isRp r → (v .prohibited || rp || eqb (r .upstream) 0 || eqb blocks hops) ≡ endsTrace v blocks hops
   unfolding endsTrace
@@ -27,13 +29,18 @@ module _ (v : View) (r : Route) (found : v .chosen ≡ Found r) where
   pub fill-found : (f : Filled) → v .prohibited ≡ false → f ≡ filledOf r (v .incoming) → f ≡ fillFor v (v .chosen)
   fill-found f shut e = e ∙ subst (λ (w : Chosen). filledOf r (v .incoming) ≡ fillFor v w) (sym found) (rw shut)
 
-  pub fits-found : RouteFits (v .chosen) → r .length ≤ 32
+  pub fits-found : RouteFits (v .chosen) → r .length ≤ addressBits
   fits-found fits = rw found at fits
 
 module _ (v : View) (none : v .chosen ≡ Nothing) where
-  pub tests-none : testsFor v Nothing ≡ testsOf v
-  unfolding testsOf
-  tests-none = ap (testsFor v) (sym none)
+  -- no route: WRONG_LAST_HOP, or else NO_ROUTE
+  pub code-none-wrong : wrongLastHop v ≡ true → codeWrongLastHop ≡ codeOf v
+  unfolding codes byFirst
+  code-none-wrong e = rw (none, e)
+
+  pub code-none : wrongLastHop v ≡ false → codeNoRoute ≡ codeOf v
+  unfolding codes byFirst
+  code-none e = rw (none, e)
 
   pub ends-none : (blocks hops : ℕ) → true ≡ endsTrace v blocks hops
   unfolding endsTrace
@@ -50,12 +57,12 @@ pub fill-shut : (v : View) (f : Filled) → v .prohibited ≡ true → f ≡ unf
 fill-shut v f e q = q ∙ shut-fill v (v .chosen) e
 
 module _ (r : Route) (n : ℕ) (mask : n ≡ maskOf r) where
-  pub s-set : sOf r ≡ true → 128 + n ≡ cond (sOf r) (128 + maskOf r) (maskOf r)
+  pub s-set : sOf r ≡ true → sBit + n ≡ sAndMask r
   s-set e = rw (e, mask)
 
-  pub s-clear : sOf r ≡ false → n ≡ cond (sOf r) (128 + maskOf r) (maskOf r)
+  pub s-clear : sOf r ≡ false → n ≡ sAndMask r
   s-clear e = rw (e, mask)
 
-  pub mask-fits : r .length ≤ 32 → 128 + n < 256
+  pub mask-fits : r .length ≤ addressBits → sBit + n < 256
   mask-fits short =
-      rw mask (cond-cases (λ (k : ℕ). 128 + k < 256) (eqb (r .kind) groupOnly) 127 (r .length) (λ e. omega arith) (λ e. omega arith))
+      rw mask (cond-cases (λ (k : ℕ). sBit + k < 256) (eqb (r .kind) groupOnly) noSourceMask (r .length) (λ e. omega arith) (λ e. omega arith))

@@ -5,12 +5,13 @@ use mathlib.Core.Path.{_≡_}
 use lib.ListN.{set, replicate}
 use Rattle.wire.specs.Numbers.{bytes, bytes16, bytes32, bytes64}
 use Rattle.wire.specs.Parts.{splice}
+use Rattle.message.specs.Format.{standard, standardSize, codeOffset, noteSize}
 use Rattle.response.specs.declared.Block.{Block}
 use Rattle.response.specs.declared.Note.{Note}
 use Rattle.response.specs.Bytes.{blockBytes, noteBytes}
 
 pub block-stored : (b : Block) (a1 a2 a3 a4 a5 a6 a7 a8 a9 : List ℕ)
-    → a1 ≡ splice (set (set (replicate 52 0) 0 4) 2 52) 4 (bytes32 (b .time))
+    → a1 ≡ splice (set (set (replicate standardSize 0) 0 standard) 2 standardSize) 4 (bytes32 (b .time))
     → a2 ≡ splice a1 8 (bytes32 (b .filled .incoming))
     → a3 ≡ splice a2 12 (bytes32 (b .outgoing))
     → a4 ≡ splice a3 16 (bytes32 (b .filled .upstream))
@@ -19,12 +20,12 @@ pub block-stored : (b : Block) (a1 a2 a3 a4 a5 a6 a7 a8 a9 : List ℕ)
     → a7 ≡ splice a6 36 (bytes64 (b .filled .total))
     → a8 ≡ splice a7 44 (bytes16 (b .filled .protocol))
     → a9 ≡ splice a8 46 (bytes16 (b .filled .multicast))
-    → set (set (set a9 48 (b .threshold)) 50 (b .filled .mask)) 51 (b .code) ≡ blockBytes b
+    → set (set (set a9 48 (b .threshold)) 50 (b .filled .mask)) codeOffset (b .code) ≡ blockBytes b
 unfolding blockBytes splice bytes
 block-stored b a1 a2 a3 a4 a5 a6 a7 a8 a9 e1 e2 e3 e4 e5 e6 e7 e8 e9 = rw (e9, e8, e7, e6, e5, e4, e3, e2, e1)
 
 pub note-stored : (n : Note) (a1 a2 a3 a4 a5 : List ℕ)
-    → a1 ≡ splice (replicate 16 0) 0 (bytes16 (n .length))
+    → a1 ≡ splice (replicate noteSize 0) 0 (bytes16 (n .length))
     → a2 ≡ splice a1 2 (bytes32 (n .destination))
     → a3 ≡ splice a2 6 (bytes16 (n .port))
     → a4 ≡ splice a3 8 (bytes16 (n .interface))

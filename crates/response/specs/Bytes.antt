@@ -2,13 +2,16 @@
 use Prim.Native.Nat.{ℕ}
 use mathlib.Core.List.{List, [], _∷_, _++_}
 use Rattle.wire.specs.Numbers.{bytes16, bytes32, bytes64}
+use Rattle.message.specs.Format.{standard, standardSize}
 use Rattle.response.specs.declared.Block.{Block}
 use Rattle.response.specs.declared.Note.{Note}
 
 -- type 4, length 52, zero; the fields in their order; a zero before S and mask
 unfoldable pub blockBytes : Block → List ℕ
 blockBytes b =
-    (4 ∷ 0 ∷ 52 ∷ 0 ∷ [])
+    (standard ∷ [])
+    ++ bytes16 standardSize
+    ++ (0 ∷ [])
     ++ bytes32 (b .time)
     ++ bytes32 (b .filled .incoming)
     ++ bytes32 (b .outgoing)

@@ -1,8 +1,9 @@
 -- What the block is filled with, and what ends a trace. Neither looks at the other: the code decides nothing.
-use Prim.Native.Nat.{ℕ, _+_, _≤_}
+use Prim.Native.Nat.{ℕ, _+_}
 use mathlib.Core.Bool.{Bool, true, _&&_, _||_, cond}
 use lib.Dec.{ltb, eqb}
 use Rattle.wire.specs.Addresses.{allOnes}
+use Rattle.entry.specs.Prefix.{addressBits}
 use Rattle.entry.specs.Route.{sourceAndGroup, groupOnly, sourceOnly, isRp}
 use Rattle.entry.specs.declared.route.Route.{Route}
 use Rattle.route.specs.declared.Chosen.{Chosen}
@@ -12,7 +13,7 @@ use Rattle.response.specs.declared.Incoming.{Incoming}
 use Rattle.response.specs.declared.Filled.{Filled}
 use Rattle.response.specs.declared.Block.{Block}
 use Rattle.response.specs.View.{notCounted, addressOf, inputOf}
-use Rattle.response.specs.Code.{testsOf, codeOf}
+use Rattle.response.specs.Code.{codeOf}
 
 -- 224.0.0.2, all routers of the link: where upstream is not known
 abbrev pub allRouters : ℕ
@@ -26,13 +27,25 @@ upstreamOf r = cond (allOnes (r .upstream)) allRouters (r .upstream)
 abbrev pub totalOf : Route → ℕ
 totalOf r = cond (eqb (r .kind) sourceOnly) notCounted (r .packets)
 
+-- the mask of a route without a source
+abbrev pub noSourceMask : ℕ
+noSourceMask = 127
+
 -- the source length; 127 for kind 2
 abbrev pub maskOf : Route → ℕ
-maskOf r = cond (eqb (r .kind) groupOnly) 127 (r .length)
+maskOf r = cond (eqb (r .kind) groupOnly) noSourceMask (r .length)
 
 -- S: 1 for kind 2, and for kind 1 under length 32
 abbrev pub sOf : Route → Bool
-sOf r = eqb (r .kind) groupOnly || (eqb (r .kind) sourceAndGroup && ltb (r .length) 32)
+sOf r = eqb (r .kind) groupOnly || (eqb (r .kind) sourceAndGroup && ltb (r .length) addressBits)
+
+-- S stands before the 7 bits of the mask
+abbrev pub sBit : ℕ
+sBit = 128
+
+-- S and the mask, as one byte
+abbrev pub sAndMask : Route → ℕ
+sAndMask r = cond (sOf r) (sBit + maskOf r) (maskOf r)
 
 -- filled from the route
 unfoldable pub filledOf : Route → Incoming → Filled
@@ -44,7 +57,7 @@ filledOf r i =
       total = totalOf r;
       protocol = r .protocol;
       multicast = r .multicast;
-      mask = cond (sOf r) (128 + maskOf r) (maskOf r);
+      mask = sAndMask r;
     }
 
 -- all of it 0
@@ -56,11 +69,6 @@ abbrev pub fillFor : View → Chosen → Filled
 fillFor v Nothing = unfilled
 fillFor v (Found r) = cond (v .prohibited) unfilled (filledOf r (v .incoming))
 
--- a route's source length is at most 32, as in every valid sheet, so that S and mask fit their byte
-abbrev pub RouteFits : Chosen → Type 0
-RouteFits Nothing = Unit {0}
-RouteFits (Found r) = r .length ≤ 32
-
 -- the whole block: time, outgoing address, output count and TTL of the receiving interface; the code; the rest as filled
 unfoldable pub blockOf : View → Block
 blockOf v =
@@ -69,15 +77,15 @@ blockOf v =
       outgoing = v .here .address;
       output = v .here .output;
       threshold = v .here .threshold;
-      code = codeOf (testsOf v);
+      code = codeOf v;
       filled = fillFor v (v .chosen);
     }
 
--- a Reply if there is no route, tracing is prohibited, the route is RP, upstream is 0, or type 4 blocks now equal hops
+-- a Reply if there is no route, tracing is prohibited, the route is RP, upstream is 0, or the hops used now equal the hops
 abbrev pub endsFor : Bool → ℕ → ℕ → Chosen → Bool
-endsFor prohibited blocks hops Nothing = true
-endsFor prohibited blocks hops (Found r) = prohibited || isRp r || eqb (r .upstream) 0 || eqb blocks hops
+endsFor prohibited used hops Nothing = true
+endsFor prohibited used hops (Found r) = prohibited || isRp r || eqb (r .upstream) 0 || eqb used hops
 
 -- by the route that the router chose
 unfoldable pub endsTrace : View → ℕ → ℕ → Bool
-endsTrace v blocks hops = endsFor (v .prohibited) blocks hops (v .chosen)
+endsTrace v used hops = endsFor (v .prohibited) used hops (v .chosen)

@@ -4,3 +4,4 @@ pub mod View
 pub mod Code
 pub mod Fill
 pub mod Bytes
+pub mod Inside

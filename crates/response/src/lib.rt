@@ -4,15 +4,58 @@ use entry::Interface;
 use entry::Route;
 use route::Chosen;
 ghost use mathlib.Core.Path.{_≡_};
-ghost use mathlib.Core.Bool.{cond};
 ghost use Prim.Native.Nat.{_+_, _≤_, _<_};
-ghost use Rattle.entry.specs.Interface.{isMulticast, isBoundary};
-ghost use Rattle.entry.specs.Route.{isRp, inMap};
+ghost use Rattle.entry.specs.Prefix.{addressBits};
+ghost use Rattle.entry.specs.Interface.{mostInterfaces};
 ghost use Rattle.route.specs.declared.Chosen.the-variants.{Found};
 ghost use Rattle.response.specs.View.{boundaryOn, addressOf, inputOf};
-ghost use Rattle.response.specs.Code.{scoped, testsFor, testsOf, codeOf};
-ghost use Rattle.response.specs.Fill.{upstreamOf, totalOf, maskOf, sOf, filledOf, unfilled, RouteFits, fillFor, blockOf, endsTrace};
+ghost use Rattle.rows.specs.Rows.{firstOf};
+ghost use Rattle.response.specs.Code.{scoped, codesFor, codeOf};
+ghost use Rattle.response.specs.Fill.{upstreamOf, totalOf, maskOf, sAndMask, filledOf, unfilled, fillFor, blockOf, endsTrace};
+ghost use Rattle.response.specs.Inside.{lateCodes, RouteFits};
 ghost use Rattle.response.specs.Bytes.{blockBytes, noteBytes};
+
+// The forwarding codes.
+const CODE_NO_ERROR: u8 = 0;
+
+const CODE_WRONG_IF: u8 = 1;
+
+const CODE_PRUNE_SENT: u8 = 2;
+
+const CODE_PRUNE_RCVD: u8 = 3;
+
+const CODE_SCOPED: u8 = 4;
+
+const CODE_NO_ROUTE: u8 = 5;
+
+const CODE_WRONG_LAST_HOP: u8 = 6;
+
+const CODE_NOT_FORWARDING: u8 = 7;
+
+const CODE_REACHED_RP: u8 = 8;
+
+const CODE_RPF_IF: u8 = 9;
+
+const CODE_NO_MULTICAST: u8 = 10;
+
+const CODE_ADMIN_PROHIB: u8 = 131;
+
+pub const CODE_NO_SPACE: u8 = 129;
+
+// The first octet of the groups that a boundary keeps in: 239.0.0.0/8.
+const SCOPED_OCTET: u32 = 239;
+
+// 224.0.0.2, all routers of the link.
+const ALL_ROUTERS: u32 = 3758096386;
+
+// All ones in a count of 64 bits: not counted.
+const NOT_COUNTED: u64 = 18446744073709551615;
+
+// The mask of a route without a source.
+const NO_SOURCE_MASK: u8 = 127;
+
+// S, beside the mask.
+const S_BIT: u8 = 128;
 
 // The incoming interface of the route chosen, where it is known.
 pub enum Incoming {
@@ -31,22 +74,6 @@ pub struct View {
     pub here: Interface,
     pub group: u32,
     pub time: u32,
-}
-
-// The results of the tests for a forwarding code, in their order: WRONG_LAST_HOP, REACHED_RP, NO_ROUTE, ADMIN_PROHIB,
-// NO_MULTICAST, RPF_IF, WRONG_IF, SCOPED, PRUNE_SENT, PRUNE_RCVD, NOT_FORWARDING.
-struct Tests {
-    wronghop: bool,
-    rp: bool,
-    noroute: bool,
-    prohibited: bool,
-    nomulticast: bool,
-    rpf: bool,
-    wrongif: bool,
-    scoped: bool,
-    prunesent: bool,
-    pruned: bool,
-    stopped: bool,
 }
 
 // The fields that come from the route; `mask` is S and the source mask, as one byte.
@@ -79,129 +106,85 @@ pub struct Note {
     pub source: u32,
 }
 
-fn bit(map: u64, i: u32) -> bool
-    requires { ⌜ i < 64 ⌝ }
-    ensures { λ r. ⌜ r ≡ inMap map i ⌝ }
-{
-    (map >> i) % 2 == 1
-}
-
-fn multicast(i: Interface) -> bool
-    ensures { λ r. ⌜ r ≡ isMulticast i ⌝ }
-{
-    i.flags % 2 == 1
-}
-
-fn boundary(i: Interface) -> bool
-    ensures { λ r. ⌜ r ≡ isBoundary i ⌝ }
-{
-    i.flags / 2 % 2 == 1
-}
-
 fn boundary_on(i: Incoming) -> bool
     ensures { λ r. ⌜ r ≡ boundaryOn i ⌝ }
 {
     match i {
-        Incoming::Known(i) => boundary(i),
+        Incoming::Known(i) => entry::is_boundary(i),
         Incoming::Unknown => false,
     }
-}
-
-// Whether a route is RP.
-fn rp(r: Route) -> bool
-    ensures { λ ok. ⌜ ok ≡ isRp r ⌝ }
-{
-    r.flags % 2 == 1
 }
 
 fn in_scope(v: View) -> bool
     ensures { λ r. ⌜ r ≡ scoped v ⌝ }
 {
     let incoming = v.incoming;
-    (v.group / 16777216 == 239) & (boundary(v.here) | boundary_on(incoming))
+    (v.group / wire::FIRST_OCTET == SCOPED_OCTET)
+        & (entry::is_boundary(v.here) | boundary_on(incoming))
 }
 
-// The tests that need a route, where one was chosen.
-fn tests_on(v: View, r: Route) -> Tests
-    requires { ⌜ v .number < 64 ⌝ }
-    ensures { λ t. ⌜ t ≡ testsFor v (Found r) ⌝ }
+// The first code from SCOPED on that applies, where a route was chosen.
+fn late_code(v: View, r: Route) -> u8
+    requires { ⌜ v .number < mostInterfaces ⌝ }
+    ensures { λ code. ⌜ code ≡ firstOf (lateCodes v r) ⌝ }
 {
-    Tests {
-        wronghop: v.query & !v.proper,
-        rp: rp(r),
-        noroute: false,
-        prohibited: v.prohibited,
-        nomulticast: !multicast(v.here),
-        rpf: v.number == r.incoming as u32,
-        wrongif: !bit(r.forward, v.number),
-        scoped: in_scope(v),
-        prunesent: r.flags / 2 % 2 == 1,
-        pruned: bit(r.pruned, v.number),
-        stopped: bit(r.stopped, v.number),
+    let number = v.number as usize;
+    if in_scope(v) {
+        return CODE_SCOPED;
     }
+    if entry::prune_sent(r) {
+        return CODE_PRUNE_SENT;
+    }
+    if entry::in_map(r.pruned, number) {
+        return CODE_PRUNE_RCVD;
+    }
+    if entry::in_map(r.stopped, number) {
+        return CODE_NOT_FORWARDING;
+    }
+    CODE_NO_ERROR
 }
 
-fn tests_of(v: View) -> Tests
-    requires { ⌜ v .number < 64 ⌝ }
-    ensures { λ t. ⌜ t ≡ testsOf v ⌝ }
+// The first code that applies, where a route was chosen.
+fn code_on(v: View, r: Route) -> u8
+    requires { ⌜ v .number < mostInterfaces ⌝ }
+    ensures { λ code. ⌜ code ≡ firstOf (codesFor v (Found r)) ⌝ }
+{
+    if v.query & !v.proper {
+        return CODE_WRONG_LAST_HOP;
+    }
+    if entry::is_rp(r) {
+        return CODE_REACHED_RP;
+    }
+    if v.prohibited {
+        return CODE_ADMIN_PROHIB;
+    }
+    if !entry::is_multicast(v.here) {
+        return CODE_NO_MULTICAST;
+    }
+    if v.number == r.incoming as u32 {
+        return CODE_RPF_IF;
+    }
+    if !entry::in_map(r.forward, v.number as usize) {
+        return CODE_WRONG_IF;
+    }
+    late_code(v, r)
+}
+
+// The first code that applies.
+fn code_of(v: View) -> u8
+    requires { ⌜ v .number < mostInterfaces ⌝ }
+    ensures { λ code. ⌜ code ≡ codeOf v ⌝ }
 {
     let chosen = v.chosen;
     match chosen {
-        Chosen::Found(r) => tests_on(v, r),
-        Chosen::Nothing => Tests {
-            wronghop: v.query & !v.proper,
-            rp: false,
-            noroute: true,
-            prohibited: false,
-            nomulticast: false,
-            rpf: false,
-            wrongif: false,
-            scoped: false,
-            prunesent: false,
-            pruned: false,
-            stopped: false,
-        },
+        Chosen::Found(r) => code_on(v, r),
+        Chosen::Nothing => {
+            if v.query & !v.proper {
+                return CODE_WRONG_LAST_HOP;
+            }
+            CODE_NO_ROUTE
+        }
     }
-}
-
-// The first code whose test holds.
-fn first_code(t: Tests) -> u8
-    ensures { λ r. ⌜ r ≡ codeOf t ⌝ }
-{
-    if t.wronghop {
-        return 6;
-    }
-    if t.rp {
-        return 8;
-    }
-    if t.noroute {
-        return 5;
-    }
-    if t.prohibited {
-        return 131;
-    }
-    if t.nomulticast {
-        return 10;
-    }
-    if t.rpf {
-        return 9;
-    }
-    if t.wrongif {
-        return 1;
-    }
-    if t.scoped {
-        return 4;
-    }
-    if t.prunesent {
-        return 2;
-    }
-    if t.pruned {
-        return 3;
-    }
-    if t.stopped {
-        return 7;
-    }
-    0
 }
 
 // The address of the incoming interface, 0 if unknown.
@@ -219,7 +202,7 @@ fn input_of(i: Incoming) -> u64
 {
     match i {
         Incoming::Known(i) => i.input,
-        Incoming::Unknown => 18446744073709551615,
+        Incoming::Unknown => NOT_COUNTED,
     }
 }
 
@@ -227,8 +210,8 @@ fn input_of(i: Incoming) -> u64
 pub fn upstream(r: Route) -> u32
     ensures { λ a. ⌜ a ≡ upstreamOf r ⌝ }
 {
-    if r.upstream == 4294967295 {
-        return 3758096386;
+    if wire::all_ones(r.upstream) {
+        return ALL_ROUTERS;
     }
     r.upstream
 }
@@ -236,8 +219,8 @@ pub fn upstream(r: Route) -> u32
 fn total(r: Route) -> u64
     ensures { λ n. ⌜ n ≡ totalOf r ⌝ }
 {
-    if r.kind == 3 {
-        return 18446744073709551615;
+    if r.kind == entry::SOURCE_ONLY {
+        return NOT_COUNTED;
     }
     r.packets
 }
@@ -245,25 +228,27 @@ fn total(r: Route) -> u64
 fn mask(r: Route) -> u8
     ensures { λ n. ⌜ n ≡ maskOf r ⌝ }
 {
-    if r.kind == 2 {
-        return 127;
+    if r.kind == entry::GROUP_ONLY {
+        return NO_SOURCE_MASK;
     }
     r.length
 }
 
 // S and the source mask, as one byte.
 fn s_and_mask(r: Route) -> u8
-    requires { ⌜ r .length ≤ 32 ⌝ }
-    ensures { λ n. ⌜ n ≡ cond (sOf r) (128 + maskOf r) (maskOf r) ⌝ }
+    requires { ⌜ r .length ≤ addressBits ⌝ }
+    ensures { λ n. ⌜ n ≡ sAndMask r ⌝ }
 {
-    if (r.kind == 2) | ((r.kind == 1) & (r.length < 32)) {
-        return 128 + mask(r);
+    if (r.kind == entry::GROUP_ONLY)
+        | ((r.kind == entry::SOURCE_AND_GROUP) & (r.length < entry::ADDRESS_BITS))
+    {
+        return S_BIT + mask(r);
     }
     mask(r)
 }
 
 fn filled_of(r: Route, i: Incoming) -> Filled
-    requires { ⌜ r .length ≤ 32 ⌝ }
+    requires { ⌜ r .length ≤ addressBits ⌝ }
     ensures { λ f. ⌜ f ≡ filledOf r i ⌝ }
 {
     Filled {
@@ -310,7 +295,7 @@ fn fill(v: View) -> Filled
 
 // The block that a router appends.
 pub fn block_of(v: View) -> Block
-    requires { ⌜ (v .number < 64) × RouteFits (v .chosen) ⌝ }
+    requires { ⌜ (v .number < mostInterfaces) × RouteFits (v .chosen) ⌝ }
     ensures { λ b. ⌜ b ≡ blockOf v ⌝ }
 {
     let here = v.here;
@@ -319,30 +304,30 @@ pub fn block_of(v: View) -> Block
         outgoing: here.address,
         output: here.output,
         threshold: here.threshold,
-        code: first_code(tests_of(v)),
+        code: code_of(v),
         filled: fill(v),
     }
 }
 
-// Whether the trace ends here, with so many type 4 blocks now.
-pub fn ends_trace(v: View, blocks: u32, hops: u32) -> bool
-    ensures { λ r. ⌜ r ≡ endsTrace v blocks hops ⌝ }
+// Whether the trace ends here, with so many hops used now.
+pub fn ends_trace(v: View, used: u32, hops: u32) -> bool
+    ensures { λ r. ⌜ r ≡ endsTrace v used hops ⌝ }
 {
     let chosen = v.chosen;
     match chosen {
-        Chosen::Found(r) => v.prohibited | rp(r) | (r.upstream == 0) | (blocks == hops),
+        Chosen::Found(r) => v.prohibited | entry::is_rp(r) | (r.upstream == 0) | (used == hops),
         Chosen::Nothing => true,
     }
 }
 
 // The 52 bytes of a block.
-pub fn block_bytes(b: Block) -> [u8; 52]
+pub fn block_bytes(b: Block) -> [u8; message::STANDARD_SIZE]
     ensures { λ r. ⌜ r ≡ blockBytes b ⌝ }
 {
     let f = b.filled;
-    let mut a = [0u8; 52];
-    a[0] = 4;
-    a[2] = 52;
+    let mut a = [0u8; message::STANDARD_SIZE];
+    a[0] = message::STANDARD;
+    a[2] = message::STANDARD_SIZE as u8;
     wire::put32(&mut a, 4, b.time);
     wire::put32(&mut a, 8, f.incoming);
     wire::put32(&mut a, 12, b.outgoing);
@@ -354,15 +339,15 @@ pub fn block_bytes(b: Block) -> [u8; 52]
     wire::put16(&mut a, 46, f.multicast);
     a[48] = b.threshold;
     a[50] = f.mask;
-    a[51] = b.code;
+    a[message::CODE_OFFSET] = b.code;
     a
 }
 
 // The 16 bytes of an answer record.
-pub fn note_bytes(n: Note) -> [u8; 16]
+pub fn note_bytes(n: Note) -> [u8; message::NOTE_SIZE]
     ensures { λ r. ⌜ r ≡ noteBytes n ⌝ }
 {
-    let mut a = [0u8; 16];
+    let mut a = [0u8; message::NOTE_SIZE];
     wire::put16(&mut a, 0, n.length);
     wire::put32(&mut a, 2, n.destination);
     wire::put16(&mut a, 6, n.port);

@@ -1,19 +1,11 @@
--- Two answers that meet a function's promise are equal. Each promise here is an equation.
-use Prim.Native.Nat.{ℕ}
-use mathlib.Core.Bool.{Bool}
-use mathlib.Core.List.{List}
+-- Two answers that meet a function's promise are equal: what each ensures is an equation.
 use mathlib.Core.Path.{_≡_}
-use Rattle.wire.proofs.Determined.{both-are}
-use Rattle.sheet.specs.Sheet.{layoutOf}
-use Rattle.sheet.specs.Tables.{interfaceOf, routesOf}
-use Rattle.route.specs.declared.Chosen.{Chosen}
-use Rattle.route.specs.Choice.{whichRoute}
-use Rattle.route.specs.LastHop.{properLastHop}
+use Rattle.wire.proofs.Laws.{both-are}
+use Rattle.route.proofs.choose.Reads as choose
+use Rattle.route.proofs.last_hop.Reads as last-hop
 
-module _ (s : List ℕ) where
-  pub choose-determined : (source group : ℕ) (a b : Chosen) → a ≡ whichRoute (routesOf s) source group → b ≡ whichRoute (routesOf s) source group → a ≡ b
-  choose-determined source group a b = both-are
+pub choose-determined : (κs : _) (a : _) (x y : _) (e f : _) → choose.Post κs a x e → choose.Post κs a y f → x ≡ y
+choose-determined κs a x y e f p q = both-are p q
 
-  pub last-hop-determined : (c : Chosen) (client : ℕ) (a b : Bool) → a ≡ properLastHop (interfaceOf s) (layoutOf s .interfaces) c client
-      → b ≡ properLastHop (interfaceOf s) (layoutOf s .interfaces) c client → a ≡ b
-  last-hop-determined c client a b = both-are
+pub last-hop-determined : (κs : _) (a : _) (x y : _) (e f : _) → last-hop.Post κs a x e → last-hop.Post κs a y f → x ≡ y
+last-hop-determined κs a x y e f p q = both-are p q

@@ -5,27 +5,27 @@ use mathlib.Core.Path.{_≡_, refl, sym, _∙_}
 use native.Mathlib.Omega.{arith}
 use lib.Dec.{eqb}
 use borrow.Author.Tests.{eqb-false}
-use Rattle.rows.proofs.Tests.{cond-cases}
+use Rattle.rows.proofs.Laws.{cond-cases}
 use Rattle.entry.specs.declared.route.Route.{Route}
-use Rattle.entry.proofs.Kept.{RouteKept, route-kept}
+use Rattle.entry.proofs.Laws.{RouteKept, route-kept}
 use Rattle.sheet.specs.Sheet.{layoutOf}
 use Rattle.sheet.specs.Tables.{routeOf, routesOf}
-use Rattle.sheet.proofs.Entries.{route-keeps}
+use Rattle.sheet.proofs.Laws.{route-keeps}
 use Rattle.route.specs.declared.Chosen.{Chosen}
 use Rattle.route.specs.declared.Chosen.the-variants.{Found, Nothing}
 use Rattle.route.specs.Choice.{whichRoute}
-use Rattle.route.specs.Rank.{ranksIn, bestOf}
+use Rattle.route.specs.Inside.{ranksIn, bestOf}
 use Rattle.route.proofs.Turns.{by-rank, chosen-there}
 
 -- a route of the sheet, by its number
-pub record OfSheet (s : List ℕ) (r : Route) : Type 0 where
-  pub number : ℕ
-  pub there : number < layoutOf s .routes
-  pub is : r ≡ routeOf s number
+record OfSheet (s : List ℕ) (r : Route) : Type 0 where
+  number : ℕ
+  there : number < layoutOf s .routes
+  is : r ≡ routeOf s number
 
 module _ (s : List ℕ) (source group : ℕ) (r : Route) (chosen : whichRoute (routesOf s) source group ≡ Found r) where
   -- the chosen route is one of the sheet's
-  pub chosen-of-sheet : OfSheet s r
+  chosen-of-sheet : OfSheet s r
   chosen-of-sheet =
       let b = bestOf (ranksIn s source group) (layoutOf s .routes) in
       cond-cases (λ (c : Chosen). c ≡ Found r → OfSheet s r) (eqb (b .rank) 0) Nothing (Found (routeOf s (b .at)))

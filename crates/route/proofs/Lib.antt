@@ -1,6 +1,5 @@
--- Laws that this crate's proofs and the crates above cite.
-pub mod Ranks
-pub mod Turns
+-- Laws that the crates above cite; and `Determined`: each promise leaves one answer.
+mod Ranks
+mod Turns
 pub mod Laws
-pub mod Longest
 pub mod Determined

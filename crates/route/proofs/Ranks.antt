@@ -7,14 +7,15 @@ use mathlib.Core.Path.{_≡_, refl, sym, _∙_}
 use native.Mathlib.Omega.{arith}
 use lib.Dec.{ltb, eqb}
 use borrow.Author.Tests.{lt-ltb, le-ltb, eq-eqb, ne-eqb, ltb-true, ltb-false}
-use Rattle.rows.proofs.Tests.{cond-cases}
+use Rattle.rows.proofs.Laws.{cond-cases}
 use Rattle.wire.specs.Addresses.{allOnes}
+use Rattle.entry.specs.Prefix.{addressBits}
 use Rattle.entry.specs.declared.route.Route.{Route}
 use Rattle.route.specs.declared.Best.{Best}
 use Rattle.route.specs.declared.Chosen.{Chosen}
 use Rattle.route.specs.declared.Chosen.the-variants.{Found, Nothing}
 use Rattle.route.specs.Choice.{longer, longestBy, orElse, whichRoute, servesBoth, servesGroup, servesSource}
-use Rattle.route.specs.Rank.{rankBy, rankOf, best, better, bestOf, asBoth, asGroup, asSource}
+use Rattle.route.specs.Inside.{sourceRank, groupRank, bothRank, rankBy, rankOf, best, better, bestOf, asBoth, asGroup, asSource}
 
 -- what is chosen of a list and one route more
 longest-more : (test : Route → Bool) (w : Chosen) (rs : List Route) (r : Route)
@@ -34,53 +35,53 @@ better-same b n k h = rw (le-ltb (b .rank) n h)
 module _ (at : ℕ → Route) where
   -- the best by rank is the first of three choices that there is
   abbrev Stands : Best → Chosen → Chosen → Chosen → Type 0
-  Stands b (Found q) v w = (q ≡ at (b .at)) × (b .rank ≡ 35 + q .length)
-  Stands b Nothing (Found q) w = (q ≡ at (b .at)) × (b .rank ≡ 34)
-  Stands b Nothing Nothing (Found q) = (q ≡ at (b .at)) × (b .rank ≡ 1 + q .length) × (q .length ≤ 32)
+  Stands b (Found q) v w = (q ≡ at (b .at)) × (b .rank ≡ bothRank + q .length)
+  Stands b Nothing (Found q) w = (q ≡ at (b .at)) × (b .rank ≡ groupRank)
+  Stands b Nothing Nothing (Found q) = (q ≡ at (b .at)) × (b .rank ≡ sourceRank + q .length) × (q .length ≤ addressBits)
   Stands b Nothing Nothing Nothing = b .rank ≡ 0
 
-  low : (b : Best) (v w : Chosen) → Stands b Nothing v w → b .rank < 35
+  low : (b : Best) (v w : Chosen) → Stands b Nothing v w → b .rank < bothRank
   low b (Found q) w h = omega arith
   low b Nothing (Found q) h = omega arith
   low b Nothing Nothing h = omega arith
 
-  lower : (b : Best) (w : Chosen) → Stands b Nothing Nothing w → b .rank < 34
+  lower : (b : Best) (w : Chosen) → Stands b Nothing Nothing w → b .rank < groupRank
   lower b (Found q) h = omega arith
   lower b Nothing h = omega arith
 
   module _ (b : Best) (k : ℕ) where
     -- one route more that passes a test; what is chosen by the tests behind it does not matter
-    first-more : (u v w v′ w′ : Chosen) → Stands b u v w → Stands (better b (35 + at k .length) k) (cond (longer u (at k)) (Found (at k)) u) v′ w′
+    first-more : (u v w v′ w′ : Chosen) → Stands b u v w → Stands (better b (bothRank + at k .length) k) (cond (longer u (at k)) (Found (at k)) u) v′ w′
     unfolding longer
     first-more (Found q) v w v′ w′ h =
-        cond-cases (λ (c : Chosen). Stands (better b (35 + at k .length) k) c v′ w′) (ltb (q .length) (at k .length)) _ _
-        (λ e. rw (better-up b (35 + at k .length) k (omega (arith, ltb-true (q .length) (at k .length) e))) (refl, refl))
-        (λ e. rw (better-same b (35 + at k .length) k (omega (arith, ltb-false (q .length) (at k .length) e))) h)
-    first-more Nothing v w v′ w′ h = rw (better-up b (35 + at k .length) k (omega (arith, low b v w h))) (refl, refl)
+        cond-cases (λ (c : Chosen). Stands (better b (bothRank + at k .length) k) c v′ w′) (ltb (q .length) (at k .length)) _ _
+        (λ e. rw (better-up b (bothRank + at k .length) k (omega (arith, ltb-true (q .length) (at k .length) e))) (refl, refl))
+        (λ e. rw (better-same b (bothRank + at k .length) k (omega (arith, ltb-false (q .length) (at k .length) e))) h)
+    first-more Nothing v w v′ w′ h = rw (better-up b (bothRank + at k .length) k (omega (arith, low b v w h))) (refl, refl)
 
     second-more : (u v w w′ : Chosen) → at k .length ≡ 0 → Stands b u v w
-        → Stands (better b (34 + at k .length) k) u (cond (longer v (at k)) (Found (at k)) v) w′
+        → Stands (better b (groupRank + at k .length) k) u (cond (longer v (at k)) (Found (at k)) v) w′
     unfolding longer
-    second-more (Found q) v w w′ z h = rw (better-same b (34 + at k .length) k (omega arith)) h
+    second-more (Found q) v w w′ z h = rw (better-same b (groupRank + at k .length) k (omega arith)) h
     second-more Nothing (Found q) w w′ z h =
-        rw (le-ltb (q .length) (at k .length) (omega arith), better-same b (34 + at k .length) k (omega arith)) h
+        rw (le-ltb (q .length) (at k .length) (omega arith), better-same b (groupRank + at k .length) k (omega arith)) h
     second-more Nothing Nothing w w′ z h =
-        rw (better-up b (34 + at k .length) k (omega (arith, lower b w h))) (refl, omega arith)
+        rw (better-up b (groupRank + at k .length) k (omega (arith, lower b w h))) (refl, omega arith)
 
-    third-more : (u v w : Chosen) → at k .length ≤ 32 → Stands b u v w
-        → Stands (better b (1 + at k .length) k) u v (cond (longer w (at k)) (Found (at k)) w)
+    third-more : (u v w : Chosen) → at k .length ≤ addressBits → Stands b u v w
+        → Stands (better b (sourceRank + at k .length) k) u v (cond (longer w (at k)) (Found (at k)) w)
     unfolding longer
-    third-more (Found q) v w z h = rw (better-same b (1 + at k .length) k (omega arith)) h
-    third-more Nothing (Found q) w z h = rw (better-same b (1 + at k .length) k (omega arith)) h
+    third-more (Found q) v w z h = rw (better-same b (sourceRank + at k .length) k (omega arith)) h
+    third-more Nothing (Found q) w z h = rw (better-same b (sourceRank + at k .length) k (omega arith)) h
     third-more Nothing Nothing (Found q) z h =
-        cond-cases (λ (c : Chosen). Stands (better b (1 + at k .length) k) Nothing Nothing c) (ltb (q .length) (at k .length)) _ _
-        (λ e. rw (better-up b (1 + at k .length) k (omega (arith, ltb-true (q .length) (at k .length) e))) (refl, refl, z))
-        (λ e. rw (better-same b (1 + at k .length) k (omega (arith, ltb-false (q .length) (at k .length) e))) h)
-    third-more Nothing Nothing Nothing z h = rw (better-up b (1 + at k .length) k (omega arith)) (refl, refl, z)
+        cond-cases (λ (c : Chosen). Stands (better b (sourceRank + at k .length) k) Nothing Nothing c) (ltb (q .length) (at k .length)) _ _
+        (λ e. rw (better-up b (sourceRank + at k .length) k (omega (arith, ltb-true (q .length) (at k .length) e))) (refl, refl, z))
+        (λ e. rw (better-same b (sourceRank + at k .length) k (omega (arith, ltb-false (q .length) (at k .length) e))) h)
+    third-more Nothing Nothing Nothing z h = rw (better-up b (sourceRank + at k .length) k (omega arith)) (refl, refl, z)
 
     -- one route more, whatever tests it passes: kind 2 has length 0, and no length is over 32
-    one-more : (x y z : Bool) (u v w : Chosen) → (y ≡ true → at k .length ≡ 0) → at k .length ≤ 32 → Stands b u v w
-        → Stands (better b (cond x (35 + at k .length) (cond y (34 + at k .length) (cond z (1 + at k .length) 0))) k)
+    one-more : (x y z : Bool) (u v w : Chosen) → (y ≡ true → at k .length ≡ 0) → at k .length ≤ addressBits → Stands b u v w
+        → Stands (better b (cond x (bothRank + at k .length) (cond y (groupRank + at k .length) (cond z (sourceRank + at k .length) 0))) k)
         (cond (x && longer u (at k)) (Found (at k)) u)
         (cond (y && longer v (at k)) (Found (at k)) v)
         (cond (z && longer w (at k)) (Found (at k)) w)
@@ -98,24 +99,24 @@ module _ (at : ℕ → Route) where
   stands-for b Nothing Nothing Nothing h = rw (eq-eqb (b .rank) 0 h)
 
   -- the first n routes, in order
-  abbrev pub firstOf : ℕ → List Route
-  firstOf zero = []
-  firstOf (suc n) = firstOf n ++ (at n ∷ [])
+  abbrev pub firstRoutes : ℕ → List Route
+  firstRoutes zero = []
+  firstRoutes (suc n) = firstRoutes n ++ (at n ∷ [])
 
   module _ (both shared sourced : Route → Bool) where
     abbrev Right : ℕ → Type 0
-    Right n = (k : ℕ) → k < n → (shared (at k) ≡ true → at k .length ≡ 0) × (at k .length ≤ 32)
+    Right n = (k : ℕ) → k < n → (shared (at k) ≡ true → at k .length ≡ 0) × (at k .length ≤ addressBits)
 
     stands : (n : ℕ) → Right n
-        → Stands (bestOf (λ k. rankBy both shared sourced (at k)) n) (longestBy both Nothing (firstOf n)) (longestBy shared Nothing (firstOf n))
-        (longestBy sourced Nothing (firstOf n))
+        → Stands (bestOf (λ k. rankBy both shared sourced (at k)) n) (longestBy both Nothing (firstRoutes n)) (longestBy shared Nothing (firstRoutes n))
+        (longestBy sourced Nothing (firstRoutes n))
     unfolding bestOf longestBy rankBy
     stands zero h = refl
     stands (suc n) h =
         rw (
-          longest-more both Nothing (firstOf n) (at n),
-          longest-more shared Nothing (firstOf n) (at n),
-          longest-more sourced Nothing (firstOf n) (at n),
+          longest-more both Nothing (firstRoutes n) (at n),
+          longest-more shared Nothing (firstRoutes n) (at n),
+          longest-more sourced Nothing (firstRoutes n) (at n),
         )
         (one-more (bestOf (λ k. rankBy both shared sourced (at k)) n) n (both (at n)) (shared (at n)) (sourced (at n)) _ _ _
         (h n (omega arith) .0) (h n (omega arith) .1) (stands n (λ k l. h k (omega arith))))
@@ -143,12 +144,12 @@ by-kinds false false rs both shared sourced = refl
 
 -- the route of the highest rank, the first of several, is the route that is chosen
 pub chosen-by-rank : (at : ℕ → Route) (n source group : ℕ)
-    → ((k : ℕ) → k < n → (asGroup source group (at k) ≡ true → at k .length ≡ 0) × (at k .length ≤ 32))
-    → whichRoute (firstOf at n) source group
+    → ((k : ℕ) → k < n → (asGroup source group (at k) ≡ true → at k .length ≡ 0) × (at k .length ≤ addressBits))
+    → whichRoute (firstRoutes at n) source group
     ≡ cond (eqb (bestOf (λ k. rankOf source group (at k)) n .rank) 0) Nothing (Found (at (bestOf (λ k. rankOf source group (at k)) n .at)))
 unfolding whichRoute
 chosen-by-rank at n source group right =
-    by-kinds (allOnes source) (allOnes group) (firstOf at n) (servesBoth source group) (servesGroup group) (servesSource source)
+    by-kinds (allOnes source) (allOnes group) (firstRoutes at n) (servesBoth source group) (servesGroup group) (servesSource source)
     ∙ stands-for at (bestOf (λ k. rankOf source group (at k)) n) _ _ _
     (stands at (asBoth source group) (asGroup source group) (asSource source) n right)
 

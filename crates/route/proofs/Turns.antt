@@ -1,5 +1,5 @@
 -- One pass over the routes, and one over the interfaces: each turn, and what the pass comes to.
-use Prim.Native.Nat.{ℕ, zero, suc, _+_, _-_, _%_, _≤_, _<_}
+use Prim.Native.Nat.{ℕ, zero, suc, _+_, _-_, _≤_, _<_}
 use mathlib.Core.Bool.{Bool, true, false, cond}
 use mathlib.Core.List.{List, [], _∷_, _++_}
 use mathlib.Core.Path.{_≡_, refl, ap, _∙_}
@@ -8,23 +8,25 @@ use native.Mathlib.Nat.{zero-add}
 use native.Mathlib.Numerals.{add-one}
 use lib.Dec.{eqb}
 use borrow.Author.Tests.{eq-eqb, ne-eqb, eqb-true}
-use Rattle.rows.proofs.Tests.{parts}
-use Rattle.entry.specs.Route.{groupOnly}
+use Rattle.rows.proofs.Laws.{parts}
+use Rattle.entry.specs.Route.{groupOnly, isRp}
+use Rattle.entry.specs.Prefix.{addressBits}
+use Rattle.entry.specs.Interface.{mostInterfaces}
 use Rattle.entry.specs.declared.interface.Interface.{Interface}
 use Rattle.entry.specs.declared.route.Route.{Route}
-use Rattle.entry.proofs.Kept.{interface-kept, route-kept}
+use Rattle.entry.proofs.Laws.{interface-short, route-kept}
 use Rattle.sheet.specs.declared.layout.Layout.{Layout}
 use Rattle.sheet.specs.Every.{listed}
 use Rattle.sheet.specs.Sheet.{layoutOf}
 use Rattle.sheet.specs.Tables.{interfaceOf, routeOf, routesOf}
-use Rattle.sheet.proofs.Entries.{interface-few, interface-keeps, route-keeps}
+use Rattle.sheet.proofs.Laws.{interface-few, interface-keeps, route-keeps}
 use Rattle.route.specs.declared.Best.{Best}
 use Rattle.route.specs.declared.Chosen.{Chosen}
 use Rattle.route.specs.declared.Chosen.the-variants.{Found, Nothing}
 use Rattle.route.specs.Choice.{servesGroup, whichRoute}
-use Rattle.route.specs.Rank.{asGroup, rankOf, ranksIn, better, bestOf}
+use Rattle.route.specs.Inside.{asGroup, rankOf, ranksIn, better, bestOf}
 use Rattle.route.specs.LastHop.{reaches, someReaches, properLastHop}
-use Rattle.route.proofs.Ranks.{firstOf, chosen-by-rank, best-within}
+use Rattle.route.proofs.Ranks.{firstRoutes, chosen-by-rank, best-within}
 
 above : (n : ℕ) → (n ≡ 0 → ⊥) → 0 < n
 above zero f = absurd (f refl)
@@ -38,22 +40,22 @@ listed-more f i (suc n) =
     let e : i + 1 + n ≡ i + suc n = omega arith in
     ap (λ (l : List Route). f i ∷ l) (listed-more f (i + 1) n ∙ ap (λ (k : ℕ). listed f (i + 1) n ++ (f k ∷ [])) e)
 
-listed-first : (f : ℕ → Route) (n : ℕ) → listed f 0 n ≡ firstOf f n
+listed-first : (f : ℕ → Route) (n : ℕ) → listed f 0 n ≡ firstRoutes f n
 unfolding listed
 listed-first f zero = refl
 listed-first f (suc n) = listed-more f 0 n ∙ rw (zero-add, listed-first f n)
 
 -- the interface below k has a bit in every map, and is short enough for a prefix
 module _ (s : List ℕ) (k : ℕ) (within : k ≤ layoutOf s .interfaces) (some : 0 < k) where
-  pub interface-below : k - 1 < 64
+  pub interface-below : k - 1 < mostInterfaces
   interface-below = interface-few s (k - 1) (omega arith)
 
-  pub interface-short : (i : Interface) → i ≡ interfaceOf s (k - 1) → i .length ≤ 32
-  interface-short i e = rw e (interface-kept _ (interface-keeps s (k - 1) (omega arith)) .short)
+  pub below-short : (i : Interface) → i ≡ interfaceOf s (k - 1) → i .length ≤ addressBits
+  below-short i e = rw e (interface-short _ (interface-keeps s (k - 1) (omega arith)))
 
 module _ (s : List ℕ) (l : Layout) (layout : l ≡ layoutOf s) where
   -- a route of the sheet is short enough for a prefix
-  pub route-short : (k : ℕ) (r : Route) → k < l .routes → r ≡ routeOf s k → r .length ≤ 32
+  pub route-short : (k : ℕ) (r : Route) → k < l .routes → r ≡ routeOf s k → r .length ≤ addressBits
   route-short k r h e = rw e (route-kept _ _ (route-keeps s k (rw layout at h)) .short)
 
   module _ (source group : ℕ) where
@@ -72,7 +74,7 @@ module _ (s : List ℕ) (l : Layout) (layout : l ≡ layoutOf s) where
         rw (e, layout) (best-within (ranksIn s source group) (layoutOf s .routes) (rw e at (above (b .rank) some)))
 
     right-routes : (k : ℕ) → k < layoutOf s .routes
-        → (asGroup source group (routeOf s k) ≡ true → routeOf s k .length ≡ 0) × (routeOf s k .length ≤ 32)
+        → (asGroup source group (routeOf s k) ≡ true → routeOf s k .length ≡ 0) × (routeOf s k .length ≤ addressBits)
     unfolding servesGroup
     right-routes k h =
         let kept = route-kept _ _ (route-keeps s k h) in
@@ -102,14 +104,14 @@ module _ (s : List ℕ) (l : Layout) (layout : l ≡ layoutOf s) where
 
 -- the proper last hop, by the route chosen
 module _ (interface : ℕ → Interface) (n : ℕ) (chosen : Chosen) (client : ℕ) where
-  pub hop-rp : (r : Route) → chosen ≡ Found r → r .flags % 2 ≡ 1 → true ≡ properLastHop interface n chosen client
+  pub hop-rp : (r : Route) (x : Bool) → chosen ≡ Found r → x ≡ isRp r → x ≡ true → true ≡ properLastHop interface n chosen client
   unfolding properLastHop
-  hop-rp r found rp = rw (found, eq-eqb (r .flags % 2) 1 rp)
+  hop-rp r x found e rp = rw (found, ← e, rp)
 
-  pub hop-reached : (r : Route) (x : Bool) → chosen ≡ Found r → (r .flags % 2 ≡ 1 → ⊥) → x ≡ someReaches interface r client n
-      → x ≡ properLastHop interface n chosen client
+  pub hop-reached : (r : Route) (x y : Bool) → chosen ≡ Found r → x ≡ isRp r → x ≡ false → y ≡ someReaches interface r client n
+      → y ≡ properLastHop interface n chosen client
   unfolding properLastHop
-  hop-reached r x found rp e = rw (found, ne-eqb (r .flags % 2) 1 rp) e
+  hop-reached r x y found e rp q = rw (found, ← e, rp) q
 
   pub hop-none : chosen ≡ Nothing → false ≡ properLastHop interface n chosen client
   unfolding properLastHop

@@ -27,11 +27,12 @@ unfoldable pub longer : Chosen → Route → Bool
 longer Nothing r = true
 longer (Found q) r = ltb (q .length) (r .length)
 
--- of the routes that pass a test, the longest
+-- of the best so far and the routes that pass a test, the longest
 unfoldable pub longestBy : (Route → Bool) → Chosen → List Route → Chosen
 longestBy test best [] = best
 longestBy test best (r ∷ rs) = longestBy test (cond (test r && longer best r) (Found r) best) rs
 
+-- of the routes that pass a test, the longest
 abbrev pub longest : (Route → Bool) → List Route → Chosen
 longest test rs = longestBy test Nothing rs
 

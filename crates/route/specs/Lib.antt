@@ -1,4 +1,4 @@
 -- Which route, and the proper last hop (document 01, "Which route" and "One router's step").
 pub mod Choice
-pub mod Rank
 pub mod LastHop
+pub mod Inside

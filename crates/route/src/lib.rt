@@ -5,11 +5,22 @@ use sheet::Layout;
 ghost use mathlib.Core.Path.{_≡_};
 ghost use Prim.Native.Nat.{_≤_, _<_};
 ghost use lib.ListN.{length};
+ghost use Rattle.entry.specs.Prefix.{addressBits};
+ghost use Rattle.entry.specs.Interface.{mostInterfaces};
 ghost use Rattle.sheet.specs.Sheet.{layoutOf};
 ghost use Rattle.sheet.specs.Tables.{interfaceOf, routesOf};
 ghost use Rattle.route.specs.Choice.{whichRoute};
-ghost use Rattle.route.specs.Rank.{asBoth, asGroup, asSource, rankOf, ranksIn, better, bestOf};
 ghost use Rattle.route.specs.LastHop.{reaches, someReaches, properLastHop};
+ghost use Rattle.route.specs.Inside.{asBoth, asGroup, asSource, rankOf, ranksIn, better, bestOf};
+
+// The lowest rank of kind 3.
+const SOURCE_RANK: u8 = 1;
+
+// The rank of kind 2, above all of kind 3.
+const GROUP_RANK: u8 = 34;
+
+// What kind 1 ranks above.
+const BOTH_RANK: u8 = 35;
 
 // The route chosen, if one serves.
 pub enum Chosen {
@@ -24,40 +35,44 @@ struct Best {
 }
 
 fn as_both(r: Route, source: u32, group: u32) -> bool
-    requires { ⌜ r .length ≤ 32 ⌝ }
+    requires { ⌜ r .length ≤ addressBits ⌝ }
     ensures { λ b. ⌜ b ≡ asBoth source group r ⌝ }
 {
     !wire::all_ones(source)
         & !wire::all_ones(group)
-        & ((r.kind == 1) & (r.group == group) & entry::same_prefix(r.length, r.source, source))
+        & ((r.kind == entry::SOURCE_AND_GROUP)
+            & (r.group == group)
+            & entry::same_prefix(r.length, r.source, source))
 }
 
 fn as_group(r: Route, source: u32, group: u32) -> bool
     ensures { λ b. ⌜ b ≡ asGroup source group r ⌝ }
 {
-    (wire::all_ones(source) | !wire::all_ones(group)) & ((r.kind == 2) & (r.group == group))
+    (wire::all_ones(source) | !wire::all_ones(group))
+        & ((r.kind == entry::GROUP_ONLY) & (r.group == group))
 }
 
 fn as_source(r: Route, source: u32) -> bool
-    requires { ⌜ r .length ≤ 32 ⌝ }
+    requires { ⌜ r .length ≤ addressBits ⌝ }
     ensures { λ b. ⌜ b ≡ asSource source r ⌝ }
 {
-    !wire::all_ones(source) & ((r.kind == 3) & entry::same_prefix(r.length, r.source, source))
+    !wire::all_ones(source)
+        & ((r.kind == entry::SOURCE_ONLY) & entry::same_prefix(r.length, r.source, source))
 }
 
 // The rank of a route for a source and a group; 0 where it does not serve.
 fn rank(r: Route, source: u32, group: u32) -> u8
-    requires { ⌜ r .length ≤ 32 ⌝ }
+    requires { ⌜ r .length ≤ addressBits ⌝ }
     ensures { λ n. ⌜ n ≡ rankOf source group r ⌝ }
 {
     if as_both(r, source, group) {
-        return 35 + r.length;
+        return BOTH_RANK + r.length;
     }
     if as_group(r, source, group) {
-        return 34 + r.length;
+        return GROUP_RANK + r.length;
     }
     if as_source(r, source) {
-        return 1 + r.length;
+        return SOURCE_RANK + r.length;
     }
     0
 }
@@ -100,11 +115,11 @@ pub fn choose(s: &[u8], l: Layout, source: u32, group: u32) -> Chosen
 
 // Whether interface `k` is multicast, in the route's would-forward map, and has the client in its subnet.
 fn reaches(r: Route, client: u32, k: usize, i: Interface) -> bool
-    requires { ⌜ (k < 64) × (i .length ≤ 32) ⌝ }
+    requires { ⌜ (k < mostInterfaces) × (i .length ≤ addressBits) ⌝ }
     ensures { λ b. ⌜ b ≡ reaches r client k i ⌝ }
 {
-    (i.flags % 2 == 1)
-        & ((r.forward >> k) % 2 == 1)
+    entry::is_multicast(i)
+        & entry::in_map(r.forward, k)
         & entry::same_prefix(i.length, i.address, client)
 }
 
@@ -130,7 +145,7 @@ pub fn last_hop(s: &[u8], l: Layout, c: Chosen, client: u32) -> bool
 {
     match c {
         Chosen::Found(r) => {
-            if r.flags % 2 == 1 {
+            if entry::is_rp(r) {
                 return true;
             }
             some_reaches(s, l, r, client)

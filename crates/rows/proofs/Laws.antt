@@ -8,8 +8,9 @@ use mathlib.Core.Path.{_≡_, refl, sym, ap, _∙_}
 use native.Mathlib.Omega.{arith}
 use borrow.Author.Tests.{leb-true}
 use lib.Dec.{leb, eqb}
-use Rattle.rows.specs.Rows.{Row, byFirst, firstOf, NoneApplies, IsFirst}
-use Rattle.rows.proofs.Tests.{both-of}
+use Rattle.rows.specs.Rows.{Row, byFirst, firstOf, NoneApplies, IsFirst, Noted}
+-- tests joined, and `first`, by which `search` follows a chain of them
+pub use Rattle.rows.proofs.Tests.{decided, same-flag, both-true, both-of, one-of, neither-of, parts, first, cond-cases}
 
 -- a row in front of others
 decided-by : (r : Row) (rs : List Row) (t : Bool) → r .applies ≡ t → IsFirst rs (firstOf rs) ⊎ NoneApplies rs
@@ -53,14 +54,31 @@ module _ {A : Type 0} (given : ℕ → A) (other : A) where
   first-is rs n f = rw (f .split, f .shown) (it-is (f .before) (f .it) (f .after) (f .none-before) (f .applies))
 
   -- one run of rows behind another
-  pub joined : (rs ss : List Row) → byFirst given other (rs ++ ss) ≡ byFirst given (byFirst given other ss) rs
+  joined : (rs ss : List Row) → byFirst given other (rs ++ ss) ≡ byFirst given (byFirst given other ss) rs
   unfolding byFirst
   joined [] ss = refl
   joined (r ∷ rs) ss = rw (joined rs ss)
 
--- only one number is that of the first row that applies
-pub first-unique : (rs : List Row) (n : ℕ) → IsFirst rs n → n ≡ firstOf rs
-first-unique rs n f = sym (first-is (λ n. n) 0 rs n f)
+  -- what holds of each way out of a table holds of what the table comes to
+  pub by-rows : (P : A → Type 0) (rs : List Row) → ((n : ℕ) → IsFirst rs n → P (given n)) → (NoneApplies rs → P other) → P (byFirst given other rs)
+  by-rows P rs some none =
+      ⊎-elim (λ f. rw (first-is rs _ f) (some _ f)) (λ n. rw (none-is rs n) (none n)) (first-or-none rs)
+
+-- the number that a table comes to, where each row gives its own and no row gives 0
+pub number-kept : {A : Type 0} (given : ℕ → A) (other : A) (number : A → ℕ) (rs : List Row) → ((n : ℕ) → number (given n) ≡ n) → number other ≡ 0
+    → number (byFirst given other rs) ≡ firstOf rs
+number-kept given other number rs keeps none =
+    by-rows given other (λ x. number x ≡ firstOf rs) rs
+    (λ n f. keeps n ∙ sym (first-is (λ n. n) 0 rs n f))
+    (λ z. none ∙ sym (none-is (λ n. n) 0 rs z))
+
+-- the number that some rows give is `firstOf` of them, and no other
+pub noted : (rs : List Row) → Noted rs (firstOf rs)
+noted rs = ⊎-elim (λ f. inl f) (λ none. inr (none, none-is (λ n. n) 0 rs none)) (first-or-none rs)
+
+pub noted-is : (rs : List Row) (n : ℕ) → Noted rs n → n ≡ firstOf rs
+noted-is rs n (inl f) = sym (first-is (λ n. n) 0 rs n f)
+noted-is rs n (inr none) = none .1 ∙ sym (none-is (λ n. n) 0 rs (none .0))
 
 -- all numbers of some rows pass a test
 abbrev pub numbersPass : (ℕ → Bool) → List Row → Bool
@@ -88,21 +106,27 @@ module _ (rs : List Row) where
   zero-none e z =
       ⊎-elim (λ f. absurd (omega (arith, leb-true 1 (firstOf rs) (first-passes (leb 1) rs (firstOf rs) e f)))) (λ none. none) (first-or-none rs)
 
-  pub none-zero : NoneApplies rs → firstOf rs ≡ 0
+  none-zero : NoneApplies rs → firstOf rs ≡ 0
   none-zero = none-is (λ n. n) 0 rs
 
   pub first-at-most : (most : ℕ) → numbersPass (λ n. leb n most) rs ≡ true → firstOf rs ≤ most
   first-at-most most e =
       ⊎-elim (λ f. leb-true (firstOf rs) most (first-passes (λ n. leb n most) rs (firstOf rs) e f)) (λ none. rw (none-zero none) (omega arith)) (first-or-none rs)
 
--- a number found by trying some rows decides for all rows that begin with them
+-- a number found by trying some rows decides for them, and for all rows that begin with them
+module _ {A : Type 0} (given : ℕ → A) (other : A) (rs : List Row) (n : ℕ) (tried : n ≡ firstOf rs) where
+  pub given-alone : (n ≡ 0 → ⊥) → byFirst given other rs ≡ given n
+  given-alone some = first-is given other rs n (rw tried (some-first rs (λ z. some (tried ∙ z))))
+
+  pub none-alone : numbered rs ≡ true → n ≡ 0 → byFirst given other rs ≡ other
+  none-alone e z = none-is given other rs (zero-none rs e (sym tried ∙ z))
+
 module _ {A : Type 0} (given : ℕ → A) (other : A) (rs ss : List Row) (n : ℕ) (tried : n ≡ firstOf rs) where
   pub given-by : (n ≡ 0 → ⊥) → byFirst given other (rs ++ ss) ≡ given n
-  given-by some =
-      joined given other rs ss ∙ first-is given _ rs n (rw (tried) (some-first rs (λ z. some (tried ∙ z))))
+  given-by some = joined given other rs ss ∙ given-alone given _ rs n tried some
 
   pub none-by : numbered rs ≡ true → n ≡ 0 → byFirst given other (rs ++ ss) ≡ byFirst given other ss
-  none-by e z = joined given other rs ss ∙ none-is given _ rs (zero-none rs e (sym tried ∙ z))
+  none-by e z = joined given other rs ss ∙ none-alone given _ rs n tried e z
 
 -- whether the row of a number applies, so that a proof finds it by its number and not by its place
 abbrev pub appliesAt : ℕ → List Row → Bool

@@ -1,3 +1,3 @@
--- Laws that the crates above cite.
-pub mod Tests
+-- The laws that other crates cite, in one place; and where those of tests are proved.
 pub mod Laws
+mod Tests

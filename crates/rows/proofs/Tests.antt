@@ -1,8 +1,7 @@
 -- Tests, and chains of them: what a test that is made of others says of each, and `first`, the rules by which `search` follows a
 -- chain of tests. Where a definition is `cond t₁ n₁ (cond t₂ n₂ ..)` and the code has a `return` for each test in the same
 -- order, every `return` is answered by `search first depth 30 fits 4000`.
-use Prim.Native.Nat.{ℕ, suc, _≤_, _<_}
-use native.Mathlib.Omega.{arith}
+use Prim.Native.Nat.{ℕ, _≤_, _<_}
 use mathlib.Core.Bool.{Bool, true, false, not, cond, _&&_, _||_}
 use mathlib.Core.Logic.{_⊎_, inl, inr}
 use mathlib.Core.Path.{_≡_, refl, sym, ap, _∙_}
@@ -42,15 +41,6 @@ pub one-of : (t u : Bool) → t || u ≡ true → (t ≡ true) ⊎ (u ≡ true)
 one-of true u e = inl refl
 one-of false u e = inr e
 
--- one of two holds, and it is not the first; or not the second
-pub other-of : (t u : Bool) → t || u ≡ true → t ≡ false → u ≡ true
-other-of true u e f = cc
-other-of false u e f = e
-
-pub first-of : (t u : Bool) → t || u ≡ true → u ≡ false → t ≡ true
-first-of true u e f = refl
-first-of false u e f = cc
-
 -- neither holds
 pub neither-of : (t u : Bool) → t || u ≡ false → (t ≡ false) × (u ≡ false)
 neither-of true u e = (e, cc)
@@ -65,8 +55,8 @@ pub skip-it : {A : Type 0} (t : Bool) (k rest r : A) → t ≡ false → r ≡ r
 skip-it t k rest r e h = rw e h
 
 -- a test that a call answered: what it returned is the definition's, and the branch went one way
-pub told : (x t b : Bool) → x ≡ t → x ≡ b → t ≡ b
-told x t b p q = sym p ∙ q
+pub told-is : (x t b : Bool) → x ≡ t → x ≡ b → t ≡ b
+told-is x t b p q = sym p ∙ q
 
 pub told-not : (x t b : Bool) → x ≡ t → not x ≡ b → not t ≡ b
 told-not x t b p q = sym (ap not p) ∙ q
@@ -99,14 +89,9 @@ told-lt x y k p q = rw (← p) (lt-ltb k x q)
 pub told-le : (x y k : ℕ) → x ≡ y → x ≤ k → ltb k y ≡ false
 told-le x y k p q = rw (← p) (le-ltb k x q)
 
-pub ruleset first = (told-not, told-good, eq-told, ne-told, lt-told, le-told, told-lt, told-le, take-it, skip-it, told, not-true-it, not-false-it, lt-ltb, le-ltb, le-leb, lt-leb, eq-eqb, ne-eqb)
+pub ruleset first = (told-not, told-good, eq-told, ne-told, lt-told, le-told, told-lt, told-le, take-it, skip-it, told-is, not-true-it, not-false-it, lt-ltb, le-ltb, le-leb, lt-leb, eq-eqb, ne-eqb)
 
 -- what holds of each way out of a test holds of the whole
 pub cond-cases : {A : Type 0} (P : A → Type 0) (b : Bool) (x y : A) → (b ≡ true → P x) → (b ≡ false → P y) → P (cond b x y)
 cond-cases P true x y f g = f refl
 cond-cases P false x y f g = g refl
-
--- where a chain of tests comes out below its first number, the first test failed
-pub passed : (t : Bool) (k rest : ℕ) → cond t (suc k) rest ≡ 0 → (t ≡ false) × (rest ≡ 0)
-passed true k rest e = absurd (omega arith)
-passed false k rest e = (refl, e)

@@ -3,6 +3,7 @@
 use Prim.Native.Nat.{ℕ}
 use mathlib.Core.Bool.{Bool, true, false, cond}
 use mathlib.Core.List.{List, [], _∷_, _++_}
+use mathlib.Core.Logic.{_⊎_}
 use mathlib.Core.Path.{_≡_}
 
 -- a row: its number, and whether it applies
@@ -36,3 +37,7 @@ pub record IsFirst (rs : List Row) (number : ℕ) : Type 0 where
   pub none-before : NoneApplies before
   pub applies : it .applies ≡ true
   pub shown : number ≡ it .number
+
+-- a number is the one that some rows give: that of the first that applies; 0 where none does
+abbrev pub Noted : List Row → ℕ → Type 0
+Noted rs number = IsFirst rs number ⊎ (NoneApplies rs × (number ≡ 0))

@@ -1,4 +1,5 @@
--- Laws of the entries' promises.
-pub mod Behind
-pub mod Rows
+-- Laws of the entries' promises; and `Determined`: each promise leaves one answer.
+mod Behind
+mod Rows
+pub mod Laws
 pub mod Determined

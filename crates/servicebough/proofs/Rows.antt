@@ -4,32 +4,36 @@ use mathlib.Core.Path.{_≡_}
 use mathlib.Core.List.{List}
 use native.Mathlib.Omega.{arith}
 use lib.ListN.{length}
-use borrow.Author.Tests.{ne-eqb, lt-ltb, le-ltb}
+use borrow.Author.Tests.{lt-ltb, le-ltb}
+use Rattle.rows.specs.Rows.{byFirst}
+use Rattle.rows.proofs.Laws.{first}
 use Rattle.wire.specs.Numbers.{bytes32, bytes64}
 use Rattle.wire.specs.Parts.{splice}
 use Rattle.clock.specs.declared.Tick.{Tick}
+use Rattle.engine.specs.Answer.{sentHome}
 use Rattle.yard.specs.declared.Walked.{Walked}
 use Rattle.yard.specs.Walk.{Walk, Tells}
-use Rattle.servicebough.specs.Ticks.{tickBytes, tickNumber, tickLeft, TickMeets}
-use Rattle.servicebough.specs.Answers.{walkedOf, walkedBytes, answerLeft, handed, walkHanded}
+use Rattle.drops.specs.Drop.{dropRoom}
+use Rattle.servicebough.specs.Ticks.{tickSize, tickBytes, TickMeets}
+use Rattle.servicebough.specs.Answers.{answerSize, walkedBytes, answerLeft, handed, walkHanded}
 use Rattle.servicebough.proofs.Behind.{three-written, four-written}
 
 module _ (k : Tick) (out : List ℕ) where
   -- too little room
-  pub no-room : length out < 24 → TickMeets k out 1 out
-  unfolding tickNumber tickLeft
-  no-room h = record { number = simp (lt-ltb _ _ h); bytes = simp (lt-ltb _ _ h) }
+  pub no-room : length out < tickSize → TickMeets k out dropRoom out
+  unfolding byFirst
+  no-room h = record { number = search first; bytes = search first }
 
-  module _ (room : 24 ≤ length out) where
+  module _ (room : tickSize ≤ length out) where
     -- refused by the clock
     pub handed-on : (k .number ≡ 0 → ⊥) → TickMeets k out (k .number) out
-    unfolding tickNumber tickLeft
-    handed-on h = record { number = simp (le-ltb _ _ room); bytes = simp (le-ltb _ _ room, ne-eqb _ _ h) }
+    unfolding byFirst
+    handed-on h = record { number = search first; bytes = search first }
 
     -- accepted
     pub written : (a b c : List ℕ) → k .number ≡ 0 → a ≡ splice out 0 (bytes64 (k .clock .r)) → b ≡ splice a 8 (bytes64 (k .clock .y))
         → c ≡ splice b 16 (bytes64 (k .time)) → TickMeets k out 0 c
-    unfolding tickNumber tickLeft tickBytes
+    unfolding byFirst tickBytes
     written a b c h ea eb ec =
         let all = three-written 3 (k .clock .r) (k .clock .y) out a b ea eb (k .time) c ec (omega arith) in
         record { number = simp (le-ltb _ _ room, h); bytes = simp (le-ltb _ _ room, h) all }
@@ -40,12 +44,12 @@ of-tick k k′ out left n e m = rw (← e) m
 
 module _ (r : Walked) (answer : List ℕ) where
   -- nothing was sent
-  pub not-answered : r .end < 101 → answer ≡ answerLeft r answer
+  pub not-answered : r .end < sentHome → answer ≡ answerLeft r answer
   unfolding answerLeft
   not-answered h = simp (lt-ltb _ _ h)
 
   -- end, steps, blocks and length
-  pub answered : (a b c e : List ℕ) → 101 ≤ r .end → 16 ≤ length answer → a ≡ splice answer 0 (bytes32 (r .end))
+  pub answered : (a b c e : List ℕ) → sentHome ≤ r .end → answerSize ≤ length answer → a ≡ splice answer 0 (bytes32 (r .end))
       → b ≡ splice a 4 (bytes32 (r .steps)) → c ≡ splice b 8 (bytes32 (r .blocks)) → e ≡ splice c 12 (bytes32 (r .length))
       → e ≡ answerLeft r answer
   unfolding answerLeft walkedBytes
@@ -55,14 +59,13 @@ module _ (r : Walked) (answer : List ℕ) where
 
 module _ (w : Walk) (output answer : List ℕ) where
   -- too little room for the answer
-  pub no-answer : length answer < 16 → handed 1 output answer ≡ walkHanded w output answer
-  unfolding walkHanded
+  pub no-answer : length answer < answerSize → handed dropRoom output answer ≡ walkHanded w output answer
+  unfolding walkHanded byFirst
   no-answer h = simp (lt-ltb _ _ h)
 
   -- what a walk tells is what is handed over
-  pub walk-told : (r : Walked) (output′ answer′ : List ℕ) → 16 ≤ length answer → Tells w output r output′ → answer′ ≡ answerLeft r answer
+  pub walk-told : (r : Walked) (output′ answer′ : List ℕ) → answerSize ≤ length answer → Tells w output r output′ → answer′ ≡ answerLeft r answer
       → handed (r .end) output′ answer′ ≡ walkHanded w output answer
-  unfolding walkHanded
+  unfolding walkHanded byFirst
   walk-told r output′ answer′ room t e =
-      let is : r ≡ walkedOf w = λ d. record { end = t .end d; steps = t .steps d; blocks = t .blocks d; length = t .long d } in
-      simp (le-ltb _ _ room, e, t .sends, is)
+      simp (le-ltb _ _ room, e, t .sends, t .answer)

@@ -1,23 +1,22 @@
 -- The walk as C calls it: its end is the number, and end, steps, blocks and length go into 16 lent bytes where a message was sent.
 use Prim.Native.Nat.{ℕ}
 use mathlib.Core.Bool.{cond}
-use mathlib.Core.List.{List, _++_}
+use mathlib.Core.List.{List, [], _∷_, _++_}
 use lib.Dec.{ltb}
 use lib.ListN.{length}
+use Rattle.rows.specs.Rows.{Row, row, byFirst}
 use Rattle.wire.specs.Numbers.{bytes32}
 use Rattle.wire.specs.Parts.{splice}
-use Rattle.message.specs.Blocks.{standardCount}
-use Rattle.drops.specs.Drop.{noteSize}
+use Rattle.drops.specs.Drop.{dropRoom}
 use Rattle.engine.specs.Answer.{sentHome}
 use Rattle.yard.specs.declared.Walked.{Walked}
-use Rattle.yard.specs.Walk.{Walk}
+use Rattle.yard.specs.Walk.{Walk, walkedOf}
 
--- what is answered for a walk: its end, its steps, the type 4 blocks and the length of the last message sent
-abbrev pub walkedOf : Walk → Walked
-walkedOf w =
-    record { end = w .end; steps = length (w .visits); blocks = standardCount (w .last); length = length (w .last) }
+-- the bytes that are lent for the answer
+abbrev pub answerSize : ℕ
+answerSize = 16
 
--- the answer's 16 bytes: 4 for each
+-- end, steps, blocks and length, 4 bytes each
 unfoldable pub walkedBytes : Walked → List ℕ
 walkedBytes w = bytes32 (w .end) ++ bytes32 (w .steps) ++ bytes32 (w .blocks) ++ bytes32 (w .length)
 
@@ -34,8 +33,13 @@ pub record Handed : Type 0 where
 abbrev pub handed : ℕ → List ℕ → List ℕ → Handed
 handed number output answer = record { number = number; output = output; answer = answer }
 
--- an answer under 16 bytes is 1; else the walk's end, with the last message sent in the output, whose bytes past it stay
+-- what refuses before the walk does: an answer under 16 bytes
+abbrev pub answerRows : ℕ → List Row
+answerRows room = row dropRoom (ltb room answerSize) ∷ []
+
+-- refused so, nothing is written; else the number is the walk's end, and the last message sent stands in the output, whose bytes
+-- past it stay
 unfoldable pub walkHanded : Walk → List ℕ → List ℕ → Handed
 walkHanded w output answer =
-    let told = handed (w .end) (splice output 0 (w .last)) (answerLeft (walkedOf w) answer) in
-    cond (ltb (length answer) noteSize) (handed 1 output answer) told
+    byFirst (λ number. handed number output answer) (handed (w .end) (splice output 0 (w .last)) (answerLeft (walkedOf w) answer))
+    (answerRows (length answer))

@@ -12,22 +12,32 @@ ghost use Rattle.drops.specs.Arrival.{arrival};
 ghost use Rattle.engine.specs.Step.{outcome, StepMeets};
 ghost use Rattle.yard.specs.Walk.{visit, walkOf};
 ghost use Rattle.servicebough.specs.Ticks.{TickMeets};
-ghost use Rattle.servicebough.specs.Answers.{answerLeft, handed, walkHanded};
+ghost use Rattle.servicebough.specs.Answers.{answerSize, answerLeft, handed, walkHanded};
+
+// Bytes lent for the clock's r, y and time, and for the answer of a walk.
+const TICK_SIZE: usize = 24;
+
+const ANSWER_SIZE: usize = 16;
+
+// Where y and the time issued go, behind r.
+const TICK_Y: usize = 8;
+
+const TICK_TIME: usize = 16;
 
 // Hands over what a reading gave: its number and, unless it was refused, 24 bytes.
 fn hand_over(k: Tick, out: &mut [u8]) -> u32
     ensures { λ n. ⌜ TickMeets k (now (out .entry)) n (now (out .exit)) ⌝ }
 {
-    if out.len() < 24 {
-        return 1;
+    if out.len() < TICK_SIZE {
+        return drops::DROP_ROOM;
     }
     if k.number != 0 {
         return k.number;
     }
     let c = k.clock;
     wire::put64(out, 0, c.r);
-    wire::put64(out, 8, c.y);
-    wire::put64(out, 16, k.time);
+    wire::put64(out, TICK_Y, c.y);
+    wire::put64(out, TICK_TIME, k.time);
     0
 }
 
@@ -96,10 +106,10 @@ pub extern "C" fn bough_engine_step(
 
 // Writes what a walk answered into 16 bytes, unless it was refused or dropped.
 fn write_answer(w: Walked, answer: &mut [u8])
-    requires { ⌜ 16 ≤ length (now answer) ⌝ }
+    requires { ⌜ answerSize ≤ length (now answer) ⌝ }
     ensures { λ _. ⌜ now (answer .exit) ≡ answerLeft w (now (answer .entry)) ⌝ }
 {
-    if w.end < 101 {
+    if w.end < engine::SENT_HOME {
         return;
     }
     wire::put32(answer, 0, w.end);
@@ -125,8 +135,8 @@ pub extern "C" fn bough_walk(
         ≡ walkHanded (walkOf (now (yard .entry)) (now (times .entry)) (visit start (arrival (now (message .entry)) destination receiving ttl)) (length (now (output .entry))))
         (now (output .entry)) (now (answer .entry)) ⌝ }
 {
-    if answer.len() < 16 {
-        return 1;
+    if answer.len() < ANSWER_SIZE {
+        return drops::DROP_ROOM;
     }
     let w = yard::walk(
         yard,

@@ -1,6 +1,6 @@
--- Blocks of a sheet, and how many entries they hold.
+-- Blocks of a sheet, one by one: how many entries they hold, and the rules on each.
 use Prim.Native.Nat.{ℕ, _+_, _*_, _-_, _≤_, _<_}
-use mathlib.Core.Bool.{Bool, false, not, cond}
+use mathlib.Core.Bool.{Bool, true, false, not, _&&_, cond}
 use mathlib.Core.List.{List}
 use mathlib.Core.Path.{_≡_, sym, ap, _∙_}
 use native.Mathlib.Omega.{arith}
@@ -8,21 +8,23 @@ use native.Mathlib.Nat.{mul-le-mul}
 use native.Mathlib.Numerals.{add-one}
 use lib.Dec.{eqb}
 use lib.Seq.{getD-take, getD-drop}
-use borrow.Author.Tests.{eq-eqb, ne-eqb, not-false}
+use borrow.Author.Tests.{eq-eqb, ne-eqb, not-true, not-false}
 use Rattle.wire.specs.Numbers.{byteAt}
-use Rattle.block.specs.Block.{usedIn, entriesEach, frameOk}
-use Rattle.block.proofs.Frames.{frame-filled}
-use Rattle.sheet.specs.Sheet.{blockAt, interfaceBlocksIn, entriesIn}
+use Rattle.block.specs.Block.{blockSize, usedIn, switchesOf, entriesEach, frameOk}
+use Rattle.entry.specs.Interface.{interfaceSize}
+use Rattle.sheet.specs.Rules.{interfaceKind, switchesOk, entriesOk, blockOk}
+use Rattle.block.proofs.Laws.{frame-filled}
+use Rattle.sheet.specs.Sheet.{mostBlocks, sheetBlock, interfaceBlocksIn, entriesIn}
 
 -- a byte of block k is a byte of the sheet
-pub byte-in : (s : List ℕ) (k j : ℕ) → j < 512 → byteAt (blockAt s k) j ≡ byteAt s (512 * k + j)
+pub byte-in : (s : List ℕ) (k j : ℕ) → j < blockSize → byteAt (sheetBlock s k) j ≡ byteAt s (blockSize * k + j)
 byte-in s k j h = rw (getD-take, getD-drop)
 
-pub byte-told : (s : List ℕ) (k j x : ℕ) → j < 512 → x ≡ byteAt s (512 * k + j) → x ≡ byteAt (blockAt s k) j
+pub byte-told : (s : List ℕ) (k j x : ℕ) → j < blockSize → x ≡ byteAt s (blockSize * k + j) → x ≡ byteAt (sheetBlock s k) j
 byte-told s k j x h e = e ∙ sym (byte-in s k j h)
 
 -- one more block counted
-pub counted-more : (s : List ℕ) (m k x one : ℕ) → m ≡ interfaceBlocksIn s k → x ≡ byteAt (blockAt s k) 0 → one ≡ cond (eqb x 1) 1 0
+pub counted-more : (s : List ℕ) (m k x one : ℕ) → m ≡ interfaceBlocksIn s k → x ≡ byteAt (sheetBlock s k) 0 → one ≡ cond (eqb x interfaceKind) 1 0
     → m + one ≡ interfaceBlocksIn s (k + 1)
 unfolding interfaceBlocksIn
 counted-more s m k x one e f g = rw (add-one, ← e, ← f, g)
@@ -35,16 +37,27 @@ pub entries-none : (s : List ℕ) (each first count : ℕ) → count ≡ 0 → 0
 unfolding entriesIn
 entries-none s each first count e = rw (eq-eqb count 0 e)
 
-pub entries-some : (s : List ℕ) (each first count x : ℕ) → (count ≡ 0 → ⊥) → x ≡ byteAt (blockAt s (first + (count - 1))) 1
+pub entries-some : (s : List ℕ) (each first count x : ℕ) → (count ≡ 0 → ⊥) → x ≡ byteAt (sheetBlock s (first + (count - 1))) 1
     → each * (count - 1) + x ≡ entriesIn s each first count
 unfolding entriesIn
 entries-some s each first count x h e = rw (ne-eqb count 0 h, e)
 
 -- few blocks hold few entries
-pub entries-few : (each count : ℕ) → each ≤ 21 → count ≤ 16 → each * (count - 1) ≤ 315
-entries-few each count h k = let m : count - 1 ≤ 15 = omega arith in omega (arith, mul-le-mul h m)
+pub entries-few : (each count : ℕ) → each ≤ entriesEach interfaceSize → count ≤ mostBlocks → each * (count - 1) ≤ entriesEach interfaceSize * (mostBlocks - 1)
+entries-few each count h k = let m : count - 1 ≤ mostBlocks - 1 = omega arith in omega (arith, mul-le-mul h m)
 
 -- the entries in use of a block whose frame was found to hold
 pub used-fits : (size kind number : ℕ) (partly ok : Bool) (b : List ℕ) (used : ℕ) → ok ≡ frameOk kind size number partly b → not ok ≡ false → used ≡ usedIn b
     → used ≤ entriesEach size
 used-fits size kind number partly ok b used e h u = rw u (frame-filled kind size number partly b (sym e ∙ not-false ok h) .most)
+
+-- a block whose frame does not hold, and one by its frame, its switches and its entries
+module _ (kind size number : ℕ) (right : List ℕ → ℕ → Bool) (partly ok : Bool) (b : List ℕ) (told : ok ≡ frameOk kind size number partly b) where
+  pub no-frame : not ok ≡ true → false ≡ blockOk kind size right number partly b
+  unfolding blockOk
+  no-frame h = rw (← told, not-true ok h)
+
+  pub by-frame : (switches used : ℕ) (free kept : Bool) → not ok ≡ false → switches ≡ switchesOf b → free ≡ switchesOk number switches → used ≡ usedIn b
+      → kept ≡ entriesOk size right b used → free && kept ≡ blockOk kind size right number partly b
+  unfolding blockOk
+  by-frame switches used free kept h es ef eu ek = rw (← told, not-false ok h, ef, es, ek, eu)

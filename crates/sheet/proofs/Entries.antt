@@ -1,30 +1,27 @@
 -- What holds of every sheet's tables as the layout counts them: each interface and each route keeps its rules and lies within
--- the sheet. A refused sheet has none.
+-- the sheet. A noLayout sheet has none.
 use Prim.Native.Nat.{ℕ, _+_, _*_, _-_, _/_, _%_, _≤_, _<_}
 use mathlib.Core.Bool.{true, false}
 use mathlib.Core.List.{List}
-use mathlib.Core.Path.{_≡_, refl, sym, _∙_}
+use mathlib.Core.Path.{_≡_, refl, sym}
 use native.Mathlib.Omega.{arith}
-use lib.Dec.{eqb}
 use lib.ListN.{length}
-use borrow.Author.Tests.{ne-eqb}
-use Rattle.rows.proofs.Tests.{cond-cases}
-use Rattle.block.proofs.Frames.{frame-filled}
-use Rattle.entry.specs.Interface.{interfaceSize, interfaceOk}
+use Rattle.rows.proofs.Laws.{cond-cases}
+use Rattle.block.specs.Block.{blockSize, placeInBlock, entriesEach}
+use Rattle.entry.specs.Interface.{interfaceSize, mostInterfaces, interfaceOk}
 use Rattle.entry.specs.Route.{routeSize, routeOk}
 use Rattle.sheet.specs.Rules.{interfaceKind, routeKind, interfaceRight, routeRight}
-use Rattle.sheet.specs.Sheet.{blocks, blockAt, interfaceBlocks, interfacesIn, routesIn, entriesIn, validSheet, refused, counted, layoutOf}
-use Rattle.sheet.specs.Tables.{placeOf, interfaceOf, routeOf, interfacesOf, routesOf}
+use Rattle.sheet.specs.Sheet.{blocks, interfaceBlocks, interfacesIn, routesIn, validSheet, noLayout, counted, layoutOf}
+use Rattle.sheet.specs.Tables.{placeOf, interfaceOf, routeOf}
 use Rattle.sheet.specs.declared.layout.Layout.{Layout}
-use Rattle.sheet.proofs.Numbered.{length-listed}
 use Rattle.sheet.proofs.Valid.{valid, interface-run, route-run}
 use Rattle.sheet.proofs.Places.{There, entry-there}
-use Rattle.sheet.proofs.Inside.{interface-in, route-in}
+use Rattle.sheet.proofs.Parts.{interface-in, route-in}
 
 -- what holds of the counts of a valid sheet, and of no counts for any other, holds of the layout
-pub layout-cases : (P : Layout → Type 0) (s : List ℕ) → (validSheet s ≡ true → P (counted s)) → (validSheet s ≡ false → P refused) → P (layoutOf s)
+pub layout-cases : (P : Layout → Type 0) (s : List ℕ) → (validSheet s ≡ true → P (counted s)) → (validSheet s ≡ false → P noLayout) → P (layoutOf s)
 unfolding layoutOf
-layout-cases P s = cond-cases P (validSheet s) (counted s) refused
+layout-cases P s = cond-cases P (validSheet s) (counted s) noLayout
 
 pub layout-valid : (s : List ℕ) → validSheet s ≡ true → layoutOf s ≡ counted s
 unfolding layoutOf
@@ -34,40 +31,21 @@ pub valid-told : (s : List ℕ) → layoutOf s .valid ≡ validSheet s
 unfolding counted
 valid-told s = layout-cases (λ (l : Layout). l .valid ≡ validSheet s) s sym sym
 
--- the lists are as long as the layout says
-pub length-interfaces : (s : List ℕ) → length (interfacesOf s) ≡ layoutOf s .interfaces
-unfolding interfacesOf
-length-interfaces s = length-listed (interfaceOf s) 0 (layoutOf s .interfaces)
-
-pub length-routes : (s : List ℕ) → length (routesOf s) ≡ layoutOf s .routes
-unfolding routesOf
-length-routes s = length-listed (routeOf s) 0 (layoutOf s .routes)
-
 -- where something is counted the sheet is valid
-counts-valid : (s : List ℕ) (count : Layout → ℕ) (i : ℕ) → count refused ≡ 0 → i < count (layoutOf s) → validSheet s ≡ true
+counts-valid : (s : List ℕ) (count : Layout → ℕ) (i : ℕ) → count noLayout ≡ 0 → i < count (layoutOf s) → validSheet s ≡ true
 counts-valid s count i none = layout-cases (λ (l : Layout). i < count l → validSheet s ≡ true) s (λ e h. e) (λ e h. absurd (omega arith))
 
--- 1 to 64 interfaces
-pub interfaces-few : (s : List ℕ) → layoutOf s .interfaces ≤ 64
+-- at most 64 interfaces
+pub interfaces-few : (s : List ℕ) → layoutOf s .interfaces ≤ mostInterfaces
 unfolding counted
-interfaces-few s = layout-cases (λ (l : Layout). l .interfaces ≤ 64) s (λ e. valid s e .few) (λ e. omega arith)
-
-pub interfaces-some : (s : List ℕ) → layoutOf s .valid ≡ true → 1 ≤ layoutOf s .interfaces
-unfolding counted interfacesIn entriesIn
-interfaces-some s e =
-    let t : validSheet s ≡ true = sym (valid-told s) ∙ e in
-    let v = valid s t in
-    let m : ℕ = interfaceBlocks s in
-    let k : ℕ = 0 + (m - 1) in
-    let f = frame-filled interfaceKind interfaceSize k (eqb (k + 1) m) (blockAt s k) (interface-run s v .frames k (omega arith) (omega (arith, v .some))) in
-    rw (layout-valid s t, ne-eqb m 0 (λ z. omega (arith, v .some))) (omega (arith, f .some))
+interfaces-few s = layout-cases (λ (l : Layout). l .interfaces ≤ mostInterfaces) s (λ e. valid s e .few) (λ e. omega arith)
 
 -- interface i: it keeps its rules, and its bytes are there
 module _ (s : List ℕ) (i : ℕ) (there : i < layoutOf s .interfaces) where
   pub interface-valid : validSheet s ≡ true
   interface-valid = counts-valid s (λ (l : Layout). l .interfaces) i refl there
 
-  pub interface-few : i < 64
+  pub interface-few : i < mostInterfaces
   interface-few = omega (arith, interfaces-few s)
 
   interface-there : There s interfaceSize interfaceRight 0 i
@@ -82,7 +60,7 @@ module _ (s : List ℕ) (i : ℕ) (there : i < layoutOf s .interfaces) where
   pub interface-keeps : interfaceOk (interfaceOf s i) ≡ true
   unfolding interfaceOf
   interface-keeps =
-      rw (interface-in s (512 * (0 + i / 21)) 512 (4 + 24 * (i % 21)) (interface-there .inside)) at (interface-there .rules)
+      rw (interface-in s (blockSize * (0 + i / entriesEach interfaceSize)) blockSize (placeInBlock interfaceSize (i % entriesEach interfaceSize)) (interface-there .inside)) at (interface-there .rules)
 
 -- route k likewise
 module _ (s : List ℕ) (k : ℕ) (there : k < layoutOf s .routes) where
@@ -103,4 +81,4 @@ module _ (s : List ℕ) (k : ℕ) (there : k < layoutOf s .routes) where
   unfolding counted routeOf
   route-keeps =
       rw (layout-valid s route-valid)
-      (rw (route-in s (512 * (interfaceBlocks s + k / 9)) 512 (4 + 56 * (k % 9)) (route-there .inside)) at (route-there .rules))
+      (rw (route-in s (blockSize * (interfaceBlocks s + k / entriesEach routeSize)) blockSize (placeInBlock routeSize (k % entriesEach routeSize)) (route-there .inside)) at (route-there .rules))

@@ -1,37 +1,37 @@
--- Who holds an address: the lowest interface that does, and nobody exactly where none does.
+-- Who holds an address: the lowest interface that does, and nobody only where none does.
 use Prim.Native.Nat.{ℕ, zero, suc, _+_, _≤_, _<_}
 use mathlib.Core.List.{List}
 use mathlib.Core.Logic.{⊎-elim}
-use mathlib.Core.Path.{_≡_, refl}
+use mathlib.Core.Path.{_≡_}
 use native.Mathlib.Omega.{arith}
 use native.Mathlib.Nat.{eq-or-lt-of-le}
 use lib.Dec.{eqb}
 use borrow.Author.Tests.{eqb-true, eqb-false}
-use Rattle.rows.proofs.Tests.{cond-cases}
+use Rattle.rows.proofs.Laws.{cond-cases}
 use Rattle.entry.specs.declared.interface.Interface.{Interface}
 use Rattle.sheet.specs.Every.{listed}
 use Rattle.sheet.specs.Sheet.{layoutOf}
 use Rattle.sheet.specs.Tables.{interfaceOf, interfacesOf, holderFrom, holderOf}
-use Rattle.sheet.specs.declared.tables.Found.{Found}
-use Rattle.sheet.specs.declared.tables.Found.the-variants.{At, Nothing}
+use Rattle.sheet.specs.declared.tables.Holding.{Holding}
+use Rattle.sheet.specs.declared.tables.Holding.the-variants.{At, Nowhere}
 
 -- of the interfaces from number i up to `end`, none holds the address
 abbrev NoneHolds : (ℕ → Interface) → ℕ → ℕ → ℕ → Type 0
 NoneHolds f address i end = (m : ℕ) → i ≤ m → m < end → f m .address ≡ address → ⊥
 
 -- what a search from number i up to `end` may find: one that holds it and none before, or none
-abbrev Searched : (ℕ → Interface) → ℕ → ℕ → ℕ → Found → Type 0
+abbrev Searched : (ℕ → Interface) → ℕ → ℕ → ℕ → Holding → Type 0
 Searched f address i end (At j) = (i ≤ j) × (j < end) × (f j .address ≡ address) × NoneHolds f address i j
-Searched f address i end Nothing = NoneHolds f address i end
+Searched f address i end Nowhere = NoneHolds f address i end
 
 module _ (f : ℕ → Interface) (address : ℕ) where
   more : (i end : ℕ) → (f i .address ≡ address → ⊥) → NoneHolds f address (i + 1) end → NoneHolds f address i end
   more i end no′ rest m l h e =
       ⊎-elim (λ (q : i ≡ m). no′ (rw q e)) (λ (q : i < m). rest m (omega arith) h e) (eq-or-lt-of-le {n = i} {m = m} l)
 
-  later : (i end : ℕ) (x : Found) → (f i .address ≡ address → ⊥) → Searched f address (i + 1) end x → Searched f address i end x
+  later : (i end : ℕ) (x : Holding) → (f i .address ≡ address → ⊥) → Searched f address (i + 1) end x → Searched f address i end x
   later i end (At j) no′ p = (omega (arith, p .0), p .1, p .2, more i j no′ (p .3))
-  later i end Nothing no′ p = more i end no′ p
+  later i end Nowhere no′ p = more i end no′ p
 
   searches : (n i end : ℕ) → i + n ≡ end → Searched f address i end (holderFrom address i (listed f i n))
   unfolding holderFrom listed
@@ -60,12 +60,6 @@ module _ (s : List ℕ) (address : ℕ) where
     pub holder-lowest : (m : ℕ) → m < i → interfaceOf s m .address ≡ address → ⊥
     holder-lowest m h = its .3 m (omega arith) h
 
-  -- nobody is found exactly where none holds it
-  pub nobody-holds : holderOf s address ≡ Nothing → (m : ℕ) → m < layoutOf s .interfaces → interfaceOf s m .address ≡ address → ⊥
+  -- nobody is found only where none holds it
+  pub nobody-holds : holderOf s address ≡ Nowhere → (m : ℕ) → m < layoutOf s .interfaces → interfaceOf s m .address ≡ address → ⊥
   nobody-holds none m h = (rw none at searched) m (omega arith) h
-
-  pub none-found : ((m : ℕ) → m < layoutOf s .interfaces → interfaceOf s m .address ≡ address → ⊥) → holderOf s address ≡ Nothing
-  none-found none = by-answer (holderOf s address) refl where
-    by-answer : (x : Found) → holderOf s address ≡ x → holderOf s address ≡ Nothing
-    by-answer (At i) e = absurd (none i (holder-there i e) (holder-holds i e))
-    by-answer Nothing e = e

@@ -1,56 +1,43 @@
--- What the check finds, piece by piece: each block by its rules, each way in which a sheet is refused, and the layout.
-use Prim.Native.Nat.{ℕ, _+_, _*_, _-_, _/_, _%_, _≤_, _<_}
-use mathlib.Core.Bool.{Bool, true, false, _&&_, not}
+-- What the check finds, piece by piece: each block by its rules, each way in which a sheet is noLayout, and the layout.
+use Prim.Native.Nat.{ℕ, _+_, _*_, _-_, _≤_, _<_}
+use mathlib.Core.Bool.{Bool, true, false, not}
 use mathlib.Core.List.{List}
 use mathlib.Core.Path.{_≡_, sym, ap, _∙_}
-use native.Mathlib.Omega.{arith}
 use native.Mathlib.Nat.{add-sub-cancel-left}
-use lib.Dec.{leb, eqb}
+use lib.Dec.{eqb}
 use lib.ListN.{length, take, drop}
-use borrow.Author.Tests.{lt-ltb, le-ltb, lt-leb, le-leb, leb-true, eqb-true, not-true, not-false}
-use Rattle.entry.specs.Interface.{interfaceSize}
+use borrow.Author.Tests.{lt-ltb, le-ltb, lt-leb, le-leb, not-true, not-false}
+use Rattle.block.specs.Block.{blockSize}
+use Rattle.entry.specs.Interface.{interfaceSize, mostInterfaces}
 use Rattle.entry.specs.Route.{routeSize}
-use Rattle.rows.proofs.Tests.{both-of}
+use Rattle.wire.proofs.Laws.{wholes}
 use Rattle.sheet.specs.Every.{every}
 use Rattle.sheet.specs.Rules.{interfaceKind, routeKind, interfaceRight, routeRight, blockOk}
-use Rattle.sheet.specs.Sheet.{sizeOk, blocks, interfaceBlocks, interfacesIn, blockOkAt, validSheet, refused, counted, layoutOf}
+use Rattle.sheet.specs.Sheet.{mostBlocks, sheetSizeOk, blocks, interfaceBlocks, interfacesIn, blockOkAt, validSheet, noLayout, counted, layoutOf}
 use Rattle.sheet.specs.declared.layout.Layout.{Layout}
 
 -- a block by its number
 pub interface-block : (s : List ℕ) (k m : ℕ) (x : Bool) → m ≡ interfaceBlocks s → k < m
-    → x ≡ blockOk interfaceKind interfaceSize interfaceRight k (eqb (k + 1) m) (take (512 * k + 512 - 512 * k) (drop (512 * k) s))
+    → x ≡ blockOk interfaceKind interfaceSize interfaceRight k (eqb (k + 1) m) (take (blockSize * k + blockSize - blockSize * k) (drop (blockSize * k) s))
     → x ≡ blockOkAt s k
 unfolding blockOkAt
 interface-block s k m x e h f = rw (← e, lt-ltb k m h) (rw add-sub-cancel-left at f)
 
 pub route-block : (s : List ℕ) (k m interfaces : ℕ) (x : Bool) → m ≡ interfaceBlocks s → interfaces ≡ interfacesIn s → m ≤ k
-    → x ≡ blockOk routeKind routeSize (routeRight interfaces) k (eqb (k + 1) (blocks s)) (take (512 * k + 512 - 512 * k) (drop (512 * k) s))
+    → x ≡ blockOk routeKind routeSize (routeRight interfaces) k (eqb (k + 1) (blocks s)) (take (blockSize * k + blockSize - blockSize * k) (drop (blockSize * k) s))
     → x ≡ blockOkAt s k
 unfolding blockOkAt
 route-block s k m interfaces x e g h f = rw (← e, ← g, le-ltb k m h) (rw add-sub-cancel-left at f)
 
--- the length of a sheet: 1 to 16 whole blocks
-pub record Sized (size : ℕ) : Type 0 where
-  pub whole : size ≡ 512 * (size / 512)
-  pub some : 1 ≤ size / 512
-  pub few : size / 512 ≤ 16
-
-pub sized : (size : ℕ) → sizeOk size ≡ true → Sized size
-sized size e =
-    let p = both-of (eqb (size % 512) 0 && leb 1 (size / 512)) (leb (size / 512) 16) e in
-    let q = both-of (eqb (size % 512) 0) (leb 1 (size / 512)) (p .0) in
-    let r : size % 512 ≡ 0 = eqb-true (size % 512) 0 (q .0) in
-    record { whole = omega arith; some = leb-true 1 (size / 512) (q .1); few = leb-true (size / 512) 16 (p .1) }
-
 -- what the code has found out, test by test
-module _ (s : List ℕ) (size : Bool) (es : size ≡ sizeOk (length s)) (r : Layout) where
-  pub bad-size : not size ≡ true → r ≡ refused → r ≡ layoutOf s
+module _ (s : List ℕ) (size : Bool) (es : size ≡ sheetSizeOk (length s)) (r : Layout) where
+  pub bad-size : not size ≡ true → r ≡ noLayout → r ≡ layoutOf s
   unfolding layoutOf validSheet
   bad-size h f = f ∙ rw (← es, not-true size h)
 
   module _ (h : not size ≡ false) where
-    pub few-blocks : blocks s ≤ 16
-    few-blocks = sized (length s) (sym es ∙ not-false size h) .few
+    pub few-blocks : blocks s ≤ mostBlocks
+    few-blocks = wholes blockSize mostBlocks (length s) (sym es ∙ not-false size h) .few
 
     module _ (l : Layout) (el : l ≡ counted s) where
       pub m-told : l .blocks ≡ interfaceBlocks s
@@ -61,21 +48,21 @@ module _ (s : List ℕ) (size : Bool) (es : size ≡ sizeOk (length s)) (r : Lay
       unfolding counted
       i-told = ap (λ (k : Layout). k .interfaces) el
 
-      pub no-interface-block : l .blocks < 1 → r ≡ refused → r ≡ layoutOf s
+      pub no-interface-block : l .blocks < 1 → r ≡ noLayout → r ≡ layoutOf s
       unfolding layoutOf validSheet
       no-interface-block k f = f ∙ rw (← es, not-false size h, ← m-told, lt-leb 1 (l .blocks) k)
 
       module _ (some : 1 ≤ l .blocks) where
-        pub many-interfaces : 64 < l .interfaces → r ≡ refused → r ≡ layoutOf s
+        pub many-interfaces : mostInterfaces < l .interfaces → r ≡ noLayout → r ≡ layoutOf s
         unfolding layoutOf validSheet
-        many-interfaces k f = f ∙ rw (← es, not-false size h, ← m-told, le-leb 1 (l .blocks) some, ← i-told, lt-leb (l .interfaces) 64 k)
+        many-interfaces k f = f ∙ rw (← es, not-false size h, ← m-told, le-leb 1 (l .blocks) some, ← i-told, lt-leb (l .interfaces) mostInterfaces k)
 
-        module _ (few : l .interfaces ≤ 64) (ok : Bool) (eo : ok ≡ every (blockOkAt s) (blocks s)) where
+        module _ (few : l .interfaces ≤ mostInterfaces) (ok : Bool) (eo : ok ≡ every (blockOkAt s) (blocks s)) where
           valid-as : validSheet s ≡ ok
           unfolding validSheet
-          valid-as = rw (← es, not-false size h, ← m-told, le-leb 1 (l .blocks) some, ← i-told, le-leb (l .interfaces) 64 few) (sym eo)
+          valid-as = rw (← es, not-false size h, ← m-told, le-leb 1 (l .blocks) some, ← i-told, le-leb (l .interfaces) mostInterfaces few) (sym eo)
 
-          pub bad-block : not ok ≡ true → r ≡ refused → r ≡ layoutOf s
+          pub bad-block : not ok ≡ true → r ≡ noLayout → r ≡ layoutOf s
           unfolding layoutOf
           bad-block k f = f ∙ rw (valid-as, not-true ok k)
 

@@ -1,12 +1,12 @@
--- Laws that this crate's proofs and the crates above cite.
-pub mod Numbered
-pub mod Counts
-pub mod Layouts
-pub mod Valid
-pub mod Places
-pub mod Inside
-pub mod Entries
-pub mod Holders
-pub mod Told
-pub mod Reading
+-- Laws that the crates above cite; and `Determined`: each promise leaves one answer.
+mod Numbered
+mod Counts
+mod Layouts
+mod Valid
+mod Places
+mod Parts
+mod Entries
+mod Holders
+mod Reading
+pub mod Laws
 pub mod Determined

@@ -9,30 +9,30 @@ use native.Mathlib.Nat.{mod-lt, div-add-mod', div-lt-iff-lt-mul, eq-or-lt-of-le}
 use lib.Dec.{eqb}
 use lib.ListN.{length}
 use borrow.Author.Tests.{ne-eqb}
-use Rattle.block.specs.Block.{usedIn, entriesEach, entryAt}
-use Rattle.block.proofs.Frames.{room, Filled, frame-filled}
-use Rattle.sheet.specs.Sheet.{blockAt, entriesIn}
+use Rattle.block.specs.Block.{blockSize, entriesRoom, usedIn, entriesEach, placeInBlock}
+use Rattle.block.proofs.Laws.{entries-fit, InUse, frame-filled}
+use Rattle.sheet.specs.Sheet.{sheetBlock, entriesIn}
 use Rattle.sheet.specs.Tables.{placeOf}
 use Rattle.sheet.proofs.Numbered.{every-one}
 use Rattle.sheet.proofs.Valid.{Run}
 
 -- where there is an entry there is a block
 in-blocks : (s : List ℕ) (each first count i : ℕ) → i < entriesIn s each first count
-    → (1 ≤ count) × (i < each * (count - 1) + usedIn (blockAt s (first + (count - 1))))
+    → (1 ≤ count) × (i < each * (count - 1) + usedIn (sheetBlock s (first + (count - 1))))
 unfolding entriesIn
 in-blocks s each first zero i h = absurd (omega arith)
 in-blocks s each first (suc n) i h = (omega arith, rw (ne-eqb (suc n) 0 (λ e. omega arith)) at h)
 
 -- an entry that is there: it keeps its rules, and lies within its block and within the sheet
 pub record There (s : List ℕ) (size : ℕ) (right : List ℕ → ℕ → Bool) (first i : ℕ) : Type 0 where
-  pub rules : right (blockAt s (first + i / entriesEach size)) (entryAt size (i % entriesEach size)) ≡ true
-  pub inside : entryAt size (i % entriesEach size) + size ≤ 512
+  pub rules : right (sheetBlock s (first + i / entriesEach size)) (placeInBlock size (i % entriesEach size)) ≡ true
+  pub inside : placeInBlock size (i % entriesEach size) + size ≤ blockSize
   pub bytes : placeOf size first i + size ≤ length s
 
 module _ (s : List ℕ) (kind size : ℕ) (right : List ℕ → ℕ → Bool) (first stop : ℕ) (run : Run s kind size right first stop) (count : ℕ) (end : first + count ≡ stop) (i : ℕ)
     (there : i < entriesIn s (entriesEach size) first count) where
-  filled-at : (k : ℕ) → first ≤ k → k < stop → Filled (entriesEach size) (eqb (k + 1) stop) (usedIn (blockAt s k))
-  filled-at k l h = frame-filled kind size k (eqb (k + 1) stop) (blockAt s k) (run .frames k l h)
+  filled-at : (k : ℕ) → first ≤ k → k < stop → InUse (entriesEach size) (eqb (k + 1) stop) (usedIn (sheetBlock s k))
+  filled-at k l h = frame-filled kind size k (eqb (k + 1) stop) (sheetBlock s k) (run .frames k l h)
 
   some-each : 0 < entriesEach size
   some-each =
@@ -51,7 +51,7 @@ module _ (s : List ℕ) (kind size : ℕ) (right : List ℕ → ℕ → Bool) (f
       div-lt-iff-lt-mul some-each .1 (omega (arith, p .1, f .most, ap (λ (x : ℕ). x * each) e))
 
   -- and it is in use there
-  its-entry : i % entriesEach size < usedIn (blockAt s (first + i / entriesEach size))
+  its-entry : i % entriesEach size < usedIn (sheetBlock s (first + i / entriesEach size))
   its-entry =
       let each : ℕ = entriesEach size in
       let n : ℕ = count - 1 in
@@ -69,9 +69,9 @@ module _ (s : List ℕ) (kind size : ℕ) (right : List ℕ → ℕ → Bool) (f
       let j : ℕ = i % entriesEach size in
       let before : k < stop = omega (arith, its-block) in
       let f = filled-at k (omega arith) before in
-      let most : size * (j + 1) ≤ 504 = room size (j + 1) pos (omega (arith, its-entry, f .most)) in
+      let most : size * (j + 1) ≤ entriesRoom = entries-fit size (j + 1) pos (omega (arith, its-entry, f .most)) in
       record {
-        rules = every-one (λ n. right (blockAt s k) (entryAt size n)) (usedIn (blockAt s k)) j (run .entries k (omega arith) before) its-entry;
+        rules = every-one (λ n. right (sheetBlock s k) (placeInBlock size n)) (usedIn (sheetBlock s k)) j (run .entries k (omega arith) before) its-entry;
         inside = omega arith;
         bytes = omega (arith, run .within);
       }

@@ -10,27 +10,28 @@ use lib.ListN.{length}
 use borrow.Author.Tests.{eq-eqb, ne-eqb}
 use Rattle.wire.specs.Numbers.{be16, be32}
 use Rattle.wire.proofs.Laws.{be-part}
-use Rattle.entry.specs.Interface.{interfaceSize, interfaceAt}
+use Rattle.block.specs.Block.{blockSize, switchesAt}
+use Rattle.entry.specs.Interface.{interfaceSize, mostInterfaces, interfaceAt}
 use Rattle.entry.specs.Route.{routeSize, routeAt}
 use Rattle.entry.specs.declared.route.Route.{Route}
 use Rattle.sheet.specs.Every.{listed}
+use Rattle.sheet.specs.Rules.{prohibits}
 use Rattle.sheet.specs.Sheet.{interfaceBlocks, counted, layoutOf}
 use Rattle.sheet.specs.Tables.{placeOf, interfaceOf, routeOf, interfacesOf, prohibitedOf, holderFrom, holderOf}
 use Rattle.sheet.specs.declared.layout.Layout.{Layout}
-use Rattle.sheet.specs.declared.tables.Found.{Found}
-use Rattle.sheet.specs.declared.tables.Found.the-variants.{At, Nothing}
+use Rattle.sheet.specs.declared.tables.Holding.{Holding}
+use Rattle.sheet.specs.declared.tables.Holding.the-variants.{At, Nowhere}
 use Rattle.sheet.proofs.Valid.{valid}
-use Rattle.sheet.proofs.Told.{check-interface, check-route}
 use Rattle.sheet.proofs.Entries.{layout-valid, valid-told, interface-few, interface-bytes, route-valid, route-bytes}
 
 -- an interface's place
-pub place-within : (s : List ℕ) (i at : ℕ) → at ≡ placeOf interfaceSize 0 i → i < layoutOf s .interfaces → at + 24 ≤ length s
+pub place-within : (s : List ℕ) (i at : ℕ) → at ≡ placeOf interfaceSize 0 i → i < layoutOf s .interfaces → at + interfaceSize ≤ length s
 place-within s i at e h = omega (arith, interface-bytes s i h)
 
 -- a route's place
 module _ (s : List ℕ) (l : Layout) (k : ℕ) (el : l ≡ layoutOf s) (there : k < l .routes) where
   routes-there : k < layoutOf s .routes
-  routes-there = check-route s l el k there
+  routes-there = rw el at there
 
   blocks-told : l .blocks ≡ interfaceBlocks s
   unfolding counted
@@ -44,30 +45,30 @@ module _ (s : List ℕ) (l : Layout) (k : ℕ) (el : l ≡ layoutOf s) (there : 
   route-read r e = rw (← blocks-told) e
 
 -- the switches
-pub valid-long : (s : List ℕ) → layoutOf s .valid ≡ true → 512 ≤ length s
+pub valid-long : (s : List ℕ) → layoutOf s .valid ≡ true → blockSize ≤ length s
 valid-long s e = let v = valid s (sym (valid-told s) ∙ e) in omega (arith, v .size .whole, v .size .some)
 
-pub switches-read : (s : List ℕ) (x : ℕ) → x ≡ be16 s 508 → eqb x 1 ≡ prohibitedOf s
+pub switches-read : (s : List ℕ) (x : ℕ) → x ≡ be16 s switchesAt → eqb x prohibits ≡ prohibitedOf s
 unfolding prohibitedOf
-switches-read s x e = rw (e, be-part 1 s 0 512 508 (omega arith))
+switches-read s x e = rw (e, be-part 1 s 0 blockSize switchesAt (omega arith))
 
 -- the holder of an address: the search among n interfaces, from interface i on
-pub searched : List ℕ → ℕ → ℕ → ℕ → Found
+pub searched : List ℕ → ℕ → ℕ → ℕ → Holding
 searched s address i n = holderFrom address i (listed (interfaceOf s) i n)
 
-module _ (s : List ℕ) (l : Layout) (el : l ≡ layoutOf s) where
-  pub few-there : (i : ℕ) → i < l .interfaces → i < 64
-  few-there i h = interface-few s i (check-interface s l el i h)
+module _ (s : List ℕ) (n : ℕ) (all : n ≡ layoutOf s .interfaces) where
+  pub few-there : (i : ℕ) → i < n → i < mostInterfaces
+  few-there i h = interface-few s i (rw all at h)
 
-  pub address-within : (i at : ℕ) → i < l .interfaces → at ≡ placeOf interfaceSize 0 i → at + 4 ≤ length s
-  address-within i at h e = omega (arith, place-within s i at e (check-interface s l el i h))
+  pub address-within : (i at : ℕ) → i < n → at ≡ placeOf interfaceSize 0 i → at + 4 ≤ length s
+  address-within i at h e = omega (arith, place-within s i at e (rw all at h))
 
-  pub search-start : (address : ℕ) → holderOf s address ≡ searched s address 0 (l .interfaces - 0)
+  pub search-start : (address : ℕ) → holderOf s address ≡ searched s address 0 (n - 0)
   unfolding holderOf searched interfacesOf
-  search-start address = rw (sub-zero, el)
+  search-start address = rw (sub-zero, all)
 
 module _ (s : List ℕ) (address i n : ℕ) (onwards : holderOf s address ≡ searched s address i (n - i)) where
-  pub search-none : n ≤ i → Nothing ≡ holderOf s address
+  pub search-none : n ≤ i → Nowhere ≡ holderOf s address
   unfolding searched holderFrom listed
   search-none h = let e : n - i ≡ 0 = omega arith in sym (rw e at onwards)
 

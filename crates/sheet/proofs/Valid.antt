@@ -7,74 +7,67 @@ use native.Mathlib.Omega.{arith}
 use lib.Dec.{leb, eqb}
 use lib.ListN.{length}
 use borrow.Author.Tests.{lt-ltb, le-ltb, leb-true}
-use Rattle.wire.specs.Numbers.{byteAt}
-use Rattle.rows.proofs.Tests.{cond-cases, both-of}
-use Rattle.block.specs.Block.{usedIn, switchesOf, frameOk}
-use Rattle.entry.specs.Interface.{interfaceSize}
+use Rattle.rows.proofs.Laws.{cond-cases, both-of}
+use Rattle.block.specs.Block.{blockSize, kindOf, usedIn, switchesOf, frameOk}
+use Rattle.entry.specs.Interface.{interfaceSize, mostInterfaces}
 use Rattle.entry.specs.Route.{routeSize}
 use Rattle.sheet.specs.Every.{every}
 use Rattle.sheet.specs.Rules.{interfaceKind, routeKind, switchesOk, interfaceRight, routeRight, entriesOk, blockOk}
-use Rattle.sheet.specs.Sheet.{sizeOk, blocks, blockAt, interfaceBlocksIn, interfaceBlocks, interfacesIn, blockOkAt, validSheet}
+use Rattle.sheet.specs.Sheet.{mostBlocks, sheetSizeOk, blocks, sheetBlock, interfaceBlocksIn, interfaceBlocks, interfacesIn, blockOkAt, validSheet}
 use Rattle.sheet.proofs.Numbered.{every-one}
-use Rattle.sheet.proofs.Layouts.{Sized, sized}
-
--- a sheet of 512 n bytes has n blocks
-pub whole-blocks : (s : List ℕ) (n : ℕ) → length s ≡ 512 * n → blocks s ≡ n
-whole-blocks s n e = omega arith
+use Rattle.wire.proofs.Laws.{Wholes, wholes}
 
 -- no more interface blocks than blocks
 blocks-within : (s : List ℕ) (n : ℕ) → interfaceBlocksIn s n ≤ n
 unfolding interfaceBlocksIn
 blocks-within s zero = omega arith
 blocks-within s (suc n) =
-    let one : cond (eqb (byteAt (blockAt s n) 0) 1) 1 0 ≤ 1 = cond-cases (λ (k : ℕ). k ≤ 1) (eqb (byteAt (blockAt s n) 0) 1) 1 0 (λ e. omega arith) (λ e. omega arith) in
+    let one : cond (eqb (kindOf (sheetBlock s n)) interfaceKind) 1 0 ≤ 1 = cond-cases (λ (k : ℕ). k ≤ 1) (eqb (kindOf (sheetBlock s n)) interfaceKind) 1 0 (λ e. omega arith) (λ e. omega arith) in
     omega (arith, blocks-within s n)
 
 pub record Valid (s : List ℕ) : Type 0 where
-  pub size : Sized (length s)
-  pub some : 1 ≤ interfaceBlocks s
+  pub size : Wholes blockSize mostBlocks (length s)
   pub within : interfaceBlocks s ≤ blocks s
-  pub few : interfacesIn s ≤ 64
+  pub few : interfacesIn s ≤ mostInterfaces
   pub each : (k : ℕ) → k < blocks s → blockOkAt s k ≡ true
 
 pub valid : (s : List ℕ) → validSheet s ≡ true → Valid s
 unfolding validSheet interfaceBlocks
 valid s e =
-    let z : Bool = sizeOk (length s) in
+    let z : Bool = sheetSizeOk (length s) in
     let m : Bool = leb 1 (interfaceBlocks s) in
-    let f : Bool = leb (interfacesIn s) 64 in
+    let f : Bool = leb (interfacesIn s) mostInterfaces in
     let p = both-of (z && m && f) (every (blockOkAt s) (blocks s)) e in
     let q = both-of (z && m) f (p .0) in
     let r = both-of z m (q .0) in
     record {
-      size = sized (length s) (r .0);
-      some = leb-true 1 (interfaceBlocks s) (r .1);
+      size = wholes blockSize mostBlocks (length s) (r .0);
       within = blocks-within s (blocks s);
-      few = leb-true (interfacesIn s) 64 (q .1);
+      few = leb-true (interfacesIn s) mostInterfaces (q .1);
       each = λ k h. every-one (blockOkAt s) (blocks s) k (p .1) h;
     }
 
 -- blocks of one kind, numbered from `first` up to `stop`: each keeps its frame, only the last may be partly filled, and each
 -- entry in use keeps its rules
 pub record Run (s : List ℕ) (kind size : ℕ) (right : List ℕ → ℕ → Bool) (first stop : ℕ) : Type 0 where
-  pub within : 512 * stop ≤ length s
-  pub frames : (k : ℕ) → first ≤ k → k < stop → frameOk kind size k (eqb (k + 1) stop) (blockAt s k) ≡ true
-  pub entries : (k : ℕ) → first ≤ k → k < stop → entriesOk size right (blockAt s k) (usedIn (blockAt s k)) ≡ true
+  pub within : blockSize * stop ≤ length s
+  pub frames : (k : ℕ) → first ≤ k → k < stop → frameOk kind size k (eqb (k + 1) stop) (sheetBlock s k) ≡ true
+  pub entries : (k : ℕ) → first ≤ k → k < stop → entriesOk size right (sheetBlock s k) (usedIn (sheetBlock s k)) ≡ true
 
-run-of : (s : List ℕ) (kind size : ℕ) (right : List ℕ → ℕ → Bool) (first stop : ℕ) → 512 * stop ≤ length s
-    → ((k : ℕ) → first ≤ k → k < stop → blockOk kind size right k (eqb (k + 1) stop) (blockAt s k) ≡ true)
+run-of : (s : List ℕ) (kind size : ℕ) (right : List ℕ → ℕ → Bool) (first stop : ℕ) → blockSize * stop ≤ length s
+    → ((k : ℕ) → first ≤ k → k < stop → blockOk kind size right k (eqb (k + 1) stop) (sheetBlock s k) ≡ true)
     → Run s kind size right first stop
 unfolding blockOk
 run-of s kind size right first stop within kept =
     record { within = within; frames = λ k l h. both-of (frame k) (switches k) (parts k l h .0) .0; entries = λ k l h. parts k l h .1 } where
       frame : ℕ → Bool
-      frame k = frameOk kind size k (eqb (k + 1) stop) (blockAt s k)
+      frame k = frameOk kind size k (eqb (k + 1) stop) (sheetBlock s k)
 
       switches : ℕ → Bool
-      switches k = switchesOk k (switchesOf (blockAt s k))
+      switches k = switchesOk k (switchesOf (sheetBlock s k))
 
-      parts : (k : ℕ) → first ≤ k → k < stop → (frame k && switches k ≡ true) × (entriesOk size right (blockAt s k) (usedIn (blockAt s k)) ≡ true)
-      parts k l h = both-of (frame k && switches k) (entriesOk size right (blockAt s k) (usedIn (blockAt s k))) (kept k l h)
+      parts : (k : ℕ) → first ≤ k → k < stop → (frame k && switches k ≡ true) × (entriesOk size right (sheetBlock s k) (usedIn (sheetBlock s k)) ≡ true)
+      parts k l h = both-of (frame k && switches k) (entriesOk size right (sheetBlock s k) (usedIn (sheetBlock s k))) (kept k l h)
 
 -- the interface blocks, and the route blocks, of a valid sheet
 module _ (s : List ℕ) (v : Valid s) where

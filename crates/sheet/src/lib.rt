@@ -5,7 +5,7 @@ mod tables;
 
 pub use layout::Layout;
 pub use layout::check;
-pub use tables::Found;
+pub use tables::Holding;
 pub use tables::holder;
 pub use tables::interface;
 pub use tables::prohibited;

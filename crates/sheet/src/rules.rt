@@ -2,10 +2,19 @@
 ghost use mathlib.Core.Path.{_≡_};
 ghost use Prim.Native.Nat.{_≤_, _<_};
 ghost use lib.ListN.{length};
-ghost use Rattle.block.specs.Block.{blockSize};
-ghost use Rattle.entry.specs.Interface.{interfaceSize};
+ghost use Rattle.block.specs.Block.{blockSize, entriesEach};
+ghost use Rattle.entry.specs.Interface.{interfaceSize, mostInterfaces};
 ghost use Rattle.entry.specs.Route.{routeSize};
 ghost use Rattle.sheet.specs.Rules.{interfaceKind, routeKind, switchesOk, interfaceRight, routeRight, entriesOk, blockOk};
+
+// The kind of an interface block.
+pub const INTERFACE_KIND: u8 = 1;
+
+// The kind of a route block.
+const ROUTE_KIND: u8 = 2;
+
+// The switch value that prohibits tracing.
+pub const PROHIBITS: u16 = 1;
 
 // A byte as a wider number.
 pub fn wide(x: u8) -> usize
@@ -18,18 +27,19 @@ pub fn wide(x: u8) -> usize
 fn switches_ok(number: u16, switches: u16) -> bool
     ensures { λ r. ⌜ r ≡ switchesOk number switches ⌝ }
 {
-    (switches == 0) | ((number == 0) & (switches == 1))
+    (switches == 0) | ((number == 0) & (switches == PROHIBITS))
 }
 
 // Whether the first `used` interfaces of a block keep their rules.
 fn interfaces_ok(b: &[u8], used: usize) -> bool
-    requires { ⌜ (length (now b) ≡ blockSize) × (used ≤ 21) ⌝ }
+    requires { ⌜ (length (now b) ≡ blockSize) × (used ≤ entriesEach interfaceSize) ⌝ }
     ensures { λ r. ⌜ r ≡ entriesOk interfaceSize interfaceRight (now (b .entry)) used ⌝ }
 {
     let mut ok = true;
     let mut j: usize = 0;
     while j < used {
-        ok = ok & entry::interface_ok(entry::interface_at(b, 4 + 24 * j));
+        let at = block::ENTRIES_AT + entry::INTERFACE_SIZE * j;
+        ok = ok & entry::interface_ok(entry::interface_at(b, at));
         j += 1;
     }
     ok
@@ -37,13 +47,14 @@ fn interfaces_ok(b: &[u8], used: usize) -> bool
 
 // Whether the first `used` routes of a block keep their rules.
 fn routes_ok(b: &[u8], used: usize, interfaces: u16) -> bool
-    requires { ⌜ (length (now b) ≡ blockSize) × (used ≤ 9) × (interfaces ≤ 64) ⌝ }
+    requires { ⌜ (length (now b) ≡ blockSize) × (used ≤ entriesEach routeSize) × (interfaces ≤ mostInterfaces) ⌝ }
     ensures { λ r. ⌜ r ≡ entriesOk routeSize (routeRight interfaces) (now (b .entry)) used ⌝ }
 {
     let mut ok = true;
     let mut j: usize = 0;
     while j < used {
-        ok = ok & entry::route_ok(interfaces, entry::route_at(b, 4 + 56 * j));
+        let at = block::ENTRIES_AT + entry::ROUTE_SIZE * j;
+        ok = ok & entry::route_ok(interfaces, entry::route_at(b, at));
         j += 1;
     }
     ok
@@ -54,19 +65,19 @@ pub fn interface_block_ok(b: &[u8], number: u16, partly: bool) -> bool
     requires { ⌜ length (now b) ≡ blockSize ⌝ }
     ensures { λ r. ⌜ r ≡ blockOk interfaceKind interfaceSize interfaceRight number partly (now (b .entry)) ⌝ }
 {
-    if !block::frame_ok(b, 1, 24, number, partly) {
+    if !block::frame_ok(b, INTERFACE_KIND, entry::INTERFACE_SIZE, number, partly) {
         return false;
     }
-    switches_ok(number, wire::be16(b, 508)) & interfaces_ok(b, wide(b[1]))
+    switches_ok(number, wire::be16(b, block::SWITCHES_AT)) & interfaces_ok(b, wide(b[1]))
 }
 
 // Whether a block is a route block that keeps its rules, where there are so many interfaces.
 pub fn route_block_ok(b: &[u8], number: u16, partly: bool, interfaces: u16) -> bool
-    requires { ⌜ (length (now b) ≡ blockSize) × (interfaces ≤ 64) ⌝ }
+    requires { ⌜ (length (now b) ≡ blockSize) × (interfaces ≤ mostInterfaces) ⌝ }
     ensures { λ r. ⌜ r ≡ blockOk routeKind routeSize (routeRight interfaces) number partly (now (b .entry)) ⌝ }
 {
-    if !block::frame_ok(b, 2, 56, number, partly) {
+    if !block::frame_ok(b, ROUTE_KIND, entry::ROUTE_SIZE, number, partly) {
         return false;
     }
-    switches_ok(number, wire::be16(b, 508)) & routes_ok(b, wide(b[1]), interfaces)
+    switches_ok(number, wire::be16(b, block::SWITCHES_AT)) & routes_ok(b, wide(b[1]), interfaces)
 }

@@ -1,26 +1,30 @@
 // The tables of a valid sheet, read.
+use crate::layout::INTERFACES_EACH;
 use crate::layout::Layout;
+use crate::layout::ROUTES_EACH;
+use crate::rules::PROHIBITS;
 ghost use mathlib.Core.Bool.{true};
 ghost use mathlib.Core.Path.{_≡_};
 ghost use Prim.Native.Nat.{_+_, _≤_, _<_};
 ghost use lib.ListN.{length};
-ghost use Rattle.entry.specs.Interface.{interfaceSize};
+ghost use Rattle.entry.specs.Interface.{interfaceSize, mostInterfaces};
 ghost use Rattle.entry.specs.Route.{routeSize, routeAt};
 ghost use Rattle.sheet.specs.Sheet.{layoutOf};
 ghost use Rattle.sheet.specs.Tables.{placeOf, interfaceOf, routeOf, prohibitedOf, holderOf};
 
-// The number of an interface, or none.
-pub enum Found {
+// The number of the interface that holds an address, or none.
+pub enum Holding {
     At(usize),
-    Nothing,
+    Nowhere,
 }
 
 // Where interface `i` begins.
 fn interface_place(i: usize) -> usize
-    requires { ⌜ i < 64 ⌝ }
+    requires { ⌜ i < mostInterfaces ⌝ }
     ensures { λ r. ⌜ r ≡ placeOf interfaceSize 0 i ⌝ }
 {
-    512 * (i / 21) + (4 + 24 * (i % 21))
+    block::BLOCK_SIZE * (i / INTERFACES_EACH)
+        + (block::ENTRIES_AT + entry::INTERFACE_SIZE * (i % INTERFACES_EACH))
 }
 
 // Interface `i`.
@@ -36,7 +40,9 @@ fn route_from(s: &[u8], first: usize, k: usize) -> entry::Route
     requires { ⌜ placeOf routeSize first k + routeSize ≤ length (now s) ⌝ }
     ensures { λ r. ⌜ r ≡ routeAt (now (s .entry)) (placeOf routeSize first k) ⌝ }
 {
-    entry::route_at(s, 512 * (first + k / 9) + (4 + 56 * (k % 9)))
+    let at = block::BLOCK_SIZE * (first + k / ROUTES_EACH)
+        + (block::ENTRIES_AT + entry::ROUTE_SIZE * (k % ROUTES_EACH));
+    entry::route_at(s, at)
 }
 
 // Route `k`.
@@ -52,20 +58,20 @@ pub fn prohibited(s: &[u8]) -> bool
     requires { ⌜ layoutOf (now s) .valid ≡ true ⌝ }
     ensures { λ r. ⌜ r ≡ prohibitedOf (now (s .entry)) ⌝ }
 {
-    wire::be16(s, 508) == 1
+    wire::be16(s, block::SWITCHES_AT) == PROHIBITS
 }
 
-// The lowest interface that holds an address.
-pub fn holder(s: &[u8], l: Layout, address: u32) -> Found
-    requires { ⌜ l ≡ layoutOf (now s) ⌝ }
+// The lowest interface that holds an address, of a sheet that has so many.
+pub fn holder(s: &[u8], interfaces: usize, address: u32) -> Holding
+    requires { ⌜ interfaces ≡ layoutOf (now s) .interfaces ⌝ }
     ensures { λ r. ⌜ r ≡ holderOf (now (s .entry)) address ⌝ }
 {
     let mut i: usize = 0;
-    while i < l.interfaces {
+    while i < interfaces {
         if wire::be32(s, interface_place(i)) == address {
-            return Found::At(i);
+            return Holding::At(i);
         }
         i += 1;
     }
-    Found::Nothing
+    Holding::Nowhere
 }

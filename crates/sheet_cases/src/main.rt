@@ -1,7 +1,7 @@
 // Runs the sheet's check and its readers on the cases of standard input, and writes a line for each.
 // Command 0 writes a label, 1 changes the sheet, 2 checks its first bytes, 3 and 4 read an interface
 // and a route, and 5 looks for an address.
-use sheet::Found;
+use sheet::Holding;
 
 // Room for one block more than a sheet may have.
 const AREA: usize = 8704;
@@ -77,9 +77,9 @@ fn route(s: &[u8], k: usize) {
 fn holder(s: &[u8], address: u32) {
     let l = sheet::check(s);
     tape::text(b" ->");
-    match sheet::holder(s, l, address) {
-        Found::At(i) => tape::then(i as u64),
-        Found::Nothing => tape::then(65535),
+    match sheet::holder(s, l.interfaces, address) {
+        Holding::At(i) => tape::then(i as u64),
+        Holding::Nowhere => tape::then(65535),
     }
     tape::end();
 }

@@ -1,48 +1,48 @@
--- Two answers that meet a function's promise are equal. Each promise here is an equation, so one law serves all.
-use Prim.Native.Nat.{ℕ}
-use mathlib.Core.Bool.{Bool}
-use mathlib.Core.List.{List}
-use mathlib.Core.Path.{_≡_, sym, _∙_}
-use Rattle.wire.specs.Numbers.{be16, be32, be64, bytes16, bytes32, bytes64}
-use Rattle.wire.specs.Parts.{splice}
-use Rattle.wire.specs.Addresses.{unicast, multicast, linkScoped, allOnes}
+-- Two answers that meet a function's promise are equal: what each ensures is an equation.
+use denote.Ref.{now}
+use mathlib.Core.Path.{_≡_}
+use Rattle.wire.proofs.Laws.{both-are}
+use Rattle.wire.proofs.be16.Reads as be16
+use Rattle.wire.proofs.be32.Reads as be32
+use Rattle.wire.proofs.be64.Reads as be64
+use Rattle.wire.proofs.put16.Reads as put16
+use Rattle.wire.proofs.put32.Reads as put32
+use Rattle.wire.proofs.put64.Reads as put64
+use Rattle.wire.proofs.copy_to.Reads as copy-to
+use Rattle.wire.proofs.unicast.Reads as unicast
+use Rattle.wire.proofs.multicast.Reads as multicast
+use Rattle.wire.proofs.link_scoped.Reads as link-scoped
+use Rattle.wire.proofs.all_ones.Reads as all-ones
 
--- two things equal to a third
-pub both-are : {A : Type 0} {x a b : A} → a ≡ x → b ≡ x → a ≡ b
-both-are p q = p ∙ sym q
+pub be16-determined : (κs : _) (a : _) (x y : _) (e f : _) → be16.Post κs a x e → be16.Post κs a y f → x ≡ y
+be16-determined κs a x y e f p q = both-are p q
 
-module _ (s : List ℕ) (at : ℕ) where
-  pub be16-determined : (a b : ℕ) → a ≡ be16 s at → b ≡ be16 s at → a ≡ b
-  be16-determined a b = both-are
+pub be32-determined : (κs : _) (a : _) (x y : _) (e f : _) → be32.Post κs a x e → be32.Post κs a y f → x ≡ y
+be32-determined κs a x y e f p q = both-are p q
 
-  pub be32-determined : (a b : ℕ) → a ≡ be32 s at → b ≡ be32 s at → a ≡ b
-  be32-determined a b = both-are
+pub be64-determined : (κs : _) (a : _) (x y : _) (e f : _) → be64.Post κs a x e → be64.Post κs a y f → x ≡ y
+be64-determined κs a x y e f p q = both-are p q
 
-  pub be64-determined : (a b : ℕ) → a ≡ be64 s at → b ≡ be64 s at → a ≡ b
-  be64-determined a b = both-are
+pub put16-determined : (κs : _) (a : _) (x y : _) (e f : _) → put16.Post κs a x e → put16.Post κs a y f → now (e .0) ≡ now (f .0)
+put16-determined κs a x y e f p q = both-are p q
 
-  module _ (a b : List ℕ) where
-    pub put16-determined : (v : ℕ) → a ≡ splice s at (bytes16 v) → b ≡ splice s at (bytes16 v) → a ≡ b
-    put16-determined v = both-are
+pub put32-determined : (κs : _) (a : _) (x y : _) (e f : _) → put32.Post κs a x e → put32.Post κs a y f → now (e .0) ≡ now (f .0)
+put32-determined κs a x y e f p q = both-are p q
 
-    pub put32-determined : (v : ℕ) → a ≡ splice s at (bytes32 v) → b ≡ splice s at (bytes32 v) → a ≡ b
-    put32-determined v = both-are
+pub put64-determined : (κs : _) (a : _) (x y : _) (e f : _) → put64.Post κs a x e → put64.Post κs a y f → now (e .0) ≡ now (f .0)
+put64-determined κs a x y e f p q = both-are p q
 
-    pub put64-determined : (v : ℕ) → a ≡ splice s at (bytes64 v) → b ≡ splice s at (bytes64 v) → a ≡ b
-    put64-determined v = both-are
+pub copy-to-determined : (κs : _) (a : _) (x y : _) (e f : _) → copy-to.Post κs a x e → copy-to.Post κs a y f → now (e .0) ≡ now (f .0)
+copy-to-determined κs a x y e f p q = both-are p q
 
-    pub copy-to-determined : (src : List ℕ) → a ≡ splice s at src → b ≡ splice s at src → a ≡ b
-    copy-to-determined src = both-are
+pub unicast-determined : (κs : _) (a : _) (x y : _) (e f : _) → unicast.Post κs a x e → unicast.Post κs a y f → x ≡ y
+unicast-determined κs a x y e f p q = both-are p q
 
-module _ (address : ℕ) (a b : Bool) where
-  pub unicast-determined : a ≡ unicast address → b ≡ unicast address → a ≡ b
-  unicast-determined = both-are
+pub multicast-determined : (κs : _) (a : _) (x y : _) (e f : _) → multicast.Post κs a x e → multicast.Post κs a y f → x ≡ y
+multicast-determined κs a x y e f p q = both-are p q
 
-  pub multicast-determined : a ≡ multicast address → b ≡ multicast address → a ≡ b
-  multicast-determined = both-are
+pub link-scoped-determined : (κs : _) (a : _) (x y : _) (e f : _) → link-scoped.Post κs a x e → link-scoped.Post κs a y f → x ≡ y
+link-scoped-determined κs a x y e f p q = both-are p q
 
-  pub link-scoped-determined : a ≡ linkScoped address → b ≡ linkScoped address → a ≡ b
-  link-scoped-determined = both-are
-
-  pub all-ones-determined : a ≡ allOnes address → b ≡ allOnes address → a ≡ b
-  all-ones-determined = both-are
+pub all-ones-determined : (κs : _) (a : _) (x y : _) (e f : _) → all-ones.Post κs a x e → all-ones.Post κs a y f → x ≡ y
+all-ones-determined κs a x y e f p q = both-are p q

@@ -2,16 +2,22 @@
 -- the bytes outside stay.
 use Prim.Native.Nat.{ℕ, zero, suc, _+_, _*_, _/_, _%_, _^_, _-_, _≤_, _<_}
 use mathlib.Core.Path.{_≡_, refl, sym, ap, _∙_}
-use mathlib.Core.List.{List, [], _∷_, _++_, append-assoc}
+use mathlib.Core.List.{List, _++_, append-assoc}
 use native.Mathlib.Omega.{arith}
-use native.Mathlib.Nat.{add-assoc, zero-add, add-zero, pow-suc, mod-lt, div-add-mod', div-lt-iff-lt-mul, one-le-pow}
-use native.Mathlib.Numerals.{add-one}
+use native.Mathlib.Nat.{add-assoc, zero-add, add-zero, pow-suc, mod-lt, div-add-mod', div-lt-iff-lt-mul, one-le-pow, mul-comm}
 use lib.Pow.{pow-add}
-use lib.Dec.{lit≤}
-use lib.ListN.{length, take, drop, set, length-append, length-drop, length-set, List·getD-eq-default, List·getD-append}
-use lib.Seq.{take-at, drop-at, drop-drop, getD-take, getD-drop, getD-append-add, length-take-le, sets-eq, paste, paste-suc, take-append-seam, take-length}
+use mathlib.Core.Bool.{true, _&&_}
+use borrow.Author.Tests.{leb-true, eqb-true}
+use lib.Dec.{leb, eqb, lit≤}
+use lib.ListN.{length, take, drop, length-append, length-drop, List·getD-append}
+use lib.Seq.{take-at, drop-at, drop-drop, getD-take, getD-drop, getD-append-add, length-take-le}
+use Rattle.rows.proofs.Laws.{both-of}
 use Rattle.wire.specs.Numbers.{byteAt, be, bytes}
-use Rattle.wire.specs.Parts.{part, splice}
+use Rattle.wire.specs.Parts.{part, splice, wholeParts}
+
+-- two things equal to a third
+pub both-are : {A : Type 0} {x a b : A} → a ≡ x → b ≡ x → a ≡ b
+both-are p q = p ∙ sym q
 
 -- the powers that widths bring
 double : (d : ℕ) → 2 ^ suc d ≡ 2 ^ d + 2 ^ d
@@ -28,16 +34,6 @@ length-bytes (suc d) v =
 
 length-bytes-front : (d v : ℕ) → 0 + 2 ^ d ≡ length (bytes d v) + 0
 length-bytes-front d v = omega (arith, length-bytes d v)
-
-bytes-halves : (d v : ℕ) → bytes (suc d) v ≡ bytes d (v / 256 ^ (2 ^ d)) ++ bytes d (v % 256 ^ (2 ^ d))
-unfolding bytes
-bytes-halves d v = refl
-
--- a number past the end is 0
-pub be-past : (d : ℕ) (s : List ℕ) (at : ℕ) → length s ≤ at → be d s at ≡ 0
-unfolding be
-be-past zero s at h = List·getD-eq-default s 0 h
-be-past (suc d) s at h = rw (be-past d s at h, be-past d s (at + 2 ^ d) (omega arith)) (omega arith)
 
 -- two lists that agree on the bytes of a number hold the same number
 pub be-same : (d : ℕ) (s t : List ℕ) (i j : ℕ) → ((k : ℕ) → k < 2 ^ d → byteAt s (i + k) ≡ byteAt t (j + k)) → be d s i ≡ be d t j
@@ -83,7 +79,7 @@ module _ (s : List ℕ) (at : ℕ) (xs : List ℕ) (fits : at + length xs ≤ le
       ∙ List·getD-append (take at s) xs 0 j (omega (arith, length-front))
       ∙ getD-take at s j 0 h
 
-  pub byte-within : (j : ℕ) → j < length xs → byteAt (splice s at xs) (at + j) ≡ byteAt xs j
+  byte-within : (j : ℕ) → j < length xs → byteAt (splice s at xs) (at + j) ≡ byteAt xs j
   unfolding splice
   byte-within j h =
       List·getD-append (take at s ++ xs) (drop (at + length xs) s) 0 (at + j) (omega (arith, length-head))
@@ -100,10 +96,7 @@ module _ (s : List ℕ) (at : ℕ) (xs : List ℕ) (fits : at + length xs ≤ le
       ∙ getD-append-add (take at s ++ xs) (drop (at + length xs) s) k 0
       ∙ getD-drop (at + length xs) s k 0)
 
-  -- the number before, within and after it
-  pub be-before : (d j : ℕ) → j + 2 ^ d ≤ at → be d (splice s at xs) j ≡ be d s j
-  be-before d j h = be-same d (splice s at xs) s j j (λ k l. byte-before (j + k) (omega arith))
-
+  -- the number within and after it
   pub be-within : (d j : ℕ) → j + 2 ^ d ≤ length xs → be d (splice s at xs) (at + j) ≡ be d xs j
   be-within d j h =
       be-same d (splice s at xs) xs (at + j) j (λ k l. rw add-assoc (byte-within (j + k) (omega arith)))
@@ -111,14 +104,8 @@ module _ (s : List ℕ) (at : ℕ) (xs : List ℕ) (fits : at + length xs ≤ le
   pub be-after : (d j : ℕ) → at + length xs ≤ j → be d (splice s at xs) j ≡ be d s j
   be-after d j h = be-same d (splice s at xs) s j j (λ k l. byte-after (j + k) (omega arith))
 
-  -- the part itself, and what is taken up to its end
-  pub part-splice : part at (length xs) (splice s at xs) ≡ xs
-  unfolding splice
-  part-splice =
-      rw (append-assoc, drop-at (take at s) (xs ++ drop (at + length xs) s) at length-front)
-      (take-append-seam xs (drop (at + length xs) s))
-
-  pub take-splice : take (at + length xs) (splice s at xs) ≡ take at s ++ xs
+  -- what is taken up to its end, and what is left behind it
+  take-splice : take (at + length xs) (splice s at xs) ≡ take at s ++ xs
   unfolding splice
   take-splice = take-at (take at s ++ xs) (drop (at + length xs) s) (at + length xs) length-head
 
@@ -171,41 +158,16 @@ be-bytes (suc d) v h =
     )
     (div-add-mod' v B)
 
--- a store is a part of one byte
-pub set-splice : (s : List ℕ) (at v : ℕ) → at < length s → set s at v ≡ splice s at (v ∷ [])
-unfolding splice
-set-splice s at v h = sets-eq (v ∷ []) s at (omega arith)
+-- what a size of whole parts is
+pub record Wholes (each most size : ℕ) : Type 0 where
+  pub whole : size ≡ each * (size / each)
+  pub some : 1 ≤ size / each
+  pub few : size / each ≤ most
 
--- a number's two halves written one behind the other are the number written
-pub halves-written : (d : ℕ) (s t u : List ℕ) (at v : ℕ) → at + 2 ^ suc d ≤ length s → t ≡ splice s at (bytes d (v / 256 ^ (2 ^ d)))
-    → u ≡ splice t (at + 2 ^ d) (bytes d (v % 256 ^ (2 ^ d))) → u ≡ splice s at (bytes (suc d) v)
-halves-written d s t u at v h e f =
-    let hi : List ℕ = bytes d (v / 256 ^ (2 ^ d)) in
-    let lo : List ℕ = bytes d (v % 256 ^ (2 ^ d)) in
-    rw (f, e, ap (λ (n : ℕ). splice (splice s at hi) (at + n) lo) (sym (length-bytes d (v / 256 ^ (2 ^ d)))))
-    (splice-join s at hi (omega (arith, double d, length-bytes d (v / 256 ^ (2 ^ d)))) lo ∙ ap (splice s at) (sym (bytes-halves d v)))
-
--- two stores side by side are a number of two bytes written
-pub pair-stored : (s : List ℕ) (at v : ℕ) → at + 2 ≤ length s → set (set s at (v / 256)) (at + 1) (v % 256) ≡ splice s at (bytes 1 v)
-unfolding bytes
-pair-stored s at v h =
-    let t : List ℕ = set s at (v / 256) in
-    halves-written 0 s t (set t (at + 1) (v % 256)) at v h
-    (set-splice s at (v / 256) (omega arith))
-    (set-splice t (at + 1) (v % 256) (simp length-set (omega arith)))
-
--- what was written is read back
-pub be-written : (d : ℕ) (s : List ℕ) (at v : ℕ) → at + 2 ^ d ≤ length s → v < 256 ^ (2 ^ d) → be d (splice s at (bytes d v)) at ≡ v
-be-written d s at v h k =
-    ap (be d (splice s at (bytes d v))) (sym (add-zero at))
-    ∙ be-within s at (bytes d v) (omega (arith, length-bytes d v)) d 0 (omega (arith, length-bytes d v))
-    ∙ be-bytes d v k
-
--- copying byte by byte: after j bytes the destination is the old one with the first j pasted in
-pub copied-more : (d s l : List ℕ) (at j : ℕ) → l ≡ paste d at s j → at + length s ≤ length d → j < length s
-    → set l (at + j) (byteAt s j) ≡ paste d at s (j + 1)
-copied-more d s l at j e h k = rw (e, add-one) (paste-suc d at s j 0 (omega arith) k)
-
-pub copied-all : (d s l : List ℕ) (at j : ℕ) → l ≡ paste d at s j → j ≤ length s → length s ≤ j → l ≡ splice d at s
-unfolding splice
-copied-all d s l at j e h k = let q : j ≡ length s = omega arith in e ∙ rw (q, take-length)
+pub wholes : (each most size : ℕ) → wholeParts each most size ≡ true → Wholes each most size
+wholes each most size e =
+    let p = both-of (eqb (size % each) 0 && leb 1 (size / each)) (leb (size / each) most) e in
+    let q = both-of (eqb (size % each) 0) (leb 1 (size / each)) (p .0) in
+    let none : size % each ≡ 0 = eqb-true (size % each) 0 (q .0) in
+    let all = div-add-mod' size each in
+    record { whole = sym all ∙ rw (none, add-zero) (mul-comm (size / each) each); some = leb-true 1 (size / each) (q .1); few = leb-true (size / each) most (p .1) }

@@ -1,3 +1,4 @@
--- Laws that this crate's proofs and the crates above cite.
+-- Laws that the crates above cite; and `Determined`: each promise leaves one answer.
+mod Writes
 pub mod Laws
 pub mod Determined

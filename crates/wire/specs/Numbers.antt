@@ -18,21 +18,26 @@ unfoldable pub bytes : ℕ → ℕ → List ℕ
 bytes zero v = v ∷ []
 bytes (suc d) v = bytes d (v / 256 ^ (2 ^ d)) ++ bytes d (v % 256 ^ (2 ^ d))
 
--- the widths in use, by their names
+-- the number of 16 bits that begins at a place
 abbrev pub be16 : List ℕ → ℕ → ℕ
 be16 = be 1
 
+-- of 32 bits
 abbrev pub be32 : List ℕ → ℕ → ℕ
 be32 = be 2
 
+-- of 64 bits
 abbrev pub be64 : List ℕ → ℕ → ℕ
 be64 = be 3
 
+-- the bytes of a number of 16 bits
 abbrev pub bytes16 : ℕ → List ℕ
 bytes16 = bytes 1
 
+-- of 32 bits
 abbrev pub bytes32 : ℕ → List ℕ
 bytes32 = bytes 2
 
+-- of 64 bits
 abbrev pub bytes64 : ℕ → List ℕ
 bytes64 = bytes 3

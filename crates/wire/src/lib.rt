@@ -6,6 +6,12 @@ ghost use Rattle.wire.specs.Numbers.{be16, be32, be64, bytes16, bytes32,
 ghost use Rattle.wire.specs.Parts.{splice};
 ghost use Rattle.wire.specs.Addresses.{unicast, multicast, linkScoped, allOnes};
 
+// An address over this is its first octet.
+pub const FIRST_OCTET: u32 = 16777216;
+
+// 255.255.255.255.
+pub const ALL_ONES: u32 = 4294967295;
+
 // A byte as a wider number: what is read from a slice is then known to be below 256.
 fn wide(x: u8) -> u16
     ensures { λ r. ⌜ (r ≡ x) × (r < 256) ⌝ }
@@ -80,7 +86,7 @@ pub fn copy_to(dst: &mut [u8], at: usize, src: &[u8])
 pub fn unicast(a: u32) -> bool
     ensures { λ r. ⌜ r ≡ unicast a ⌝ }
 {
-    let octet = a / 16777216;
+    let octet = a / FIRST_OCTET;
     (1 <= octet) & (octet <= 223) & (octet != 127)
 }
 
@@ -88,7 +94,7 @@ pub fn unicast(a: u32) -> bool
 pub fn multicast(a: u32) -> bool
     ensures { λ r. ⌜ r ≡ multicast a ⌝ }
 {
-    let octet = a / 16777216;
+    let octet = a / FIRST_OCTET;
     (224 <= octet) & (octet <= 239)
 }
 
@@ -103,5 +109,5 @@ pub fn link_scoped(a: u32) -> bool
 pub fn all_ones(a: u32) -> bool
     ensures { λ r. ⌜ r ≡ allOnes a ⌝ }
 {
-    a == 4294967295
+    a == ALL_ONES
 }

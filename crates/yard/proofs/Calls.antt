@@ -1,34 +1,33 @@
 -- Laws of a call of the engine, by its promise alone: what it answers and sends, and what is read from its record.
-use Prim.Native.Nat.{ℕ, _+_, _/_, _≤_, _<_}
+use Prim.Native.Nat.{ℕ, _+_, _≤_, _<_}
 use mathlib.Core.Bool.{true, not, _&&_}
 use mathlib.Core.List.{List}
 use mathlib.Core.Logic.{_⊎_, inl, inr, ⊎-elim}
-use mathlib.Core.Path.{_≡_, sym, ap, _∙_}
+use mathlib.Core.Path.{_≡_, ap, _∙_}
 use native.Mathlib.Omega.{arith}
-use borrow.Author.Tests.{eq-eqb, ne-eqb, eqb-true, eqb-false, leb-true}
+use borrow.Author.Tests.{leb-true}
 use lib.Dec.{leb, eqb}
 use lib.ListN.{length, replicate}
 use Rattle.wire.specs.Numbers.{be, be16, be32, bytes}
 use Rattle.wire.specs.Parts.{splice}
-use Rattle.wire.specs.Addresses.{unicast}
-use Rattle.rows.proofs.Tests.{decided, both-of}
+use Rattle.wire.specs.Addresses.{firstOctet, unicast}
+use Rattle.rows.proofs.Laws.{both-of, first-or-none, none-is, first-is}
 use Rattle.wire.proofs.Laws.{be-within}
 use Rattle.recent.specs.Entries.{empty}
 use Rattle.response.specs.declared.Note.{Note}
 use Rattle.response.specs.Fill.{allRouters}
 use Rattle.response.specs.Bytes.{noteBytes}
 use Rattle.response.proofs.Laws.{note-length}
-use Rattle.message.specs.Format.{most}
+use Rattle.message.specs.Format.{most, noteSize}
 use Rattle.message.specs.Header.{headerOf}
 use Rattle.drops.specs.Arrival.{Arrival}
-use Rattle.drops.specs.Drop.{noteSize, dropOf}
+use Rattle.rows.specs.Rows.{firstOf, NoneApplies, IsFirst}
 use Rattle.engine.specs.Answer.{sentBy}
 use Rattle.engine.specs.Step.{Outcome, outcome, answeredBy, stepOf}
-use Rattle.engine.proofs.LawsDrop.{taken, drop-changes-nothing, taken-is-sent}
-use Rattle.engine.proofs.LawsSent.{sent-fits}
-use Rattle.engine.proofs.LawsOn.{sent-to, sent-noted}
-use Rattle.yard.specs.Walk.{notSent, sentFor}
-use Rattle.yard.specs.Ready.{Called}
+use Rattle.drops.proofs.Laws.{taken}
+use Rattle.engine.proofs.Laws.{drop-changes-nothing, taken-is-sent, sent-fits, sent-to, sent-noted}
+use Rattle.yard.specs.Walk.{notSent, rowsFor, sentFor}
+use Rattle.yard.specs.Inside.{Called}
 
 -- the record's length and destination are read back
 module _ (n : Note) where
@@ -43,51 +42,47 @@ module _ (n : Note) where
 -- a destination fits 32 bits
 to-fits : (a : ℕ) → (unicast a ≡ true) ⊎ (a ≡ allRouters) → a < 4294967296
 to-fits a (inl e) =
-    let p = both-of (leb 1 (a / 16777216) && leb (a / 16777216) 223) (not (eqb (a / 16777216) 127)) e in
-    omega (arith, leb-true (a / 16777216) 223 (both-of (leb 1 (a / 16777216)) (leb (a / 16777216) 223) (p .0) .1))
+    let p = both-of (leb 1 (firstOctet a) && leb (firstOctet a) 223) (not (eqb (firstOctet a) 127)) e in
+    omega (arith, leb-true (firstOctet a) 223 (both-of (leb 1 (firstOctet a)) (leb (firstOctet a) 223) (p .0) .1))
 to-fits a (inr e) = omega arith
 
 -- what is sent for what arrives: a drop's number, or the answer
 module _ (sheet : List ℕ) (time : ℕ) (a : Arrival) where
-  pub sent-dropped : (dropOf a sheet empty most noteSize ≡ 0 → ⊥) → sentFor sheet time a ≡ notSent (dropOf a sheet empty most noteSize)
+  pub sent-dropped : (n : ℕ) → IsFirst (rowsFor sheet a) n → sentFor sheet time a ≡ notSent n
   unfolding sentFor
-  sent-dropped some = rw (ne-eqb (dropOf a sheet empty most noteSize) 0 some)
+  sent-dropped n f = first-is notSent (sentBy a time sheet) (rowsFor sheet a) n f
 
-  pub sent-taken : dropOf a sheet empty most noteSize ≡ 0 → sentFor sheet time a ≡ sentBy a time sheet
+  pub sent-taken : NoneApplies (rowsFor sheet a) → sentFor sheet time a ≡ sentBy a time sheet
   unfolding sentFor
-  sent-taken none = rw (eq-eqb (dropOf a sheet empty most noteSize) 0 none)
+  sent-taken none = none-is notSent (sentBy a time sheet) (rowsFor sheet a) none
 
 -- an empty list and an empty record, as they are lent
 abbrev blank : List ℕ
-blank = replicate 16 0
+blank = replicate noteSize 0
 
-module _ (sheet : List ℕ) (time : ℕ) (a : Arrival) (sent recent s1 n1 : List ℕ) (answer : ℕ) (long : length sent ≡ 1472)
+module _ (sheet : List ℕ) (time : ℕ) (a : Arrival) (sent recent s1 n1 : List ℕ) (answer : ℕ) (long : length sent ≡ most)
     (meets : outcome answer recent s1 n1 ≡ stepOf a time sheet empty sent blank) where
-  number-same : dropOf a sheet empty (length sent) (length blank) ≡ dropOf a sheet empty most noteSize
-  number-same = rw long
-
-  called-dropped : (dropOf a sheet empty most noteSize ≡ 0 → ⊥) → (x y : ℕ) → x ≡ be16 n1 0 → y ≡ be32 n1 2
+  called-dropped : (n : ℕ) → IsFirst (rowsFor sheet a) n → (x y : ℕ) → x ≡ be16 n1 0 → y ≡ be32 n1 2
       → Called (sentFor sheet time a) sent (record { answer = answer; length = x; to = y }) s1
   unfolding be splice
-  called-dropped some x y e f =
-      let is : outcome answer recent s1 n1 ≡ outcome (dropOf a sheet empty (length sent) (length blank)) empty sent blank =
-      meets ∙ drop-changes-nothing a time sheet empty sent blank (λ z. some (sym number-same ∙ z)) in
+  called-dropped n first x y e f =
+      let is : outcome answer recent s1 n1 ≡ outcome n empty sent blank = meets ∙ drop-changes-nothing a time sheet empty sent blank n (rw long first) in
       let note : n1 ≡ blank = ap (λ (o : Outcome). o .note) is in
-      rw (sent-dropped sheet time a some)
+      rw (sent-dropped sheet time a n first)
       (record {
-        answer = ap (λ (o : Outcome). o .answer) is ∙ number-same;
+        answer = ap (λ (o : Outcome). o .answer) is;
         long = e ∙ rw note;
         to = f ∙ rw note;
         sends = ap (λ (o : Outcome). o .output) is;
       })
 
-  called-answered : dropOf a sheet empty most noteSize ≡ 0 → (x y : ℕ) → x ≡ be16 n1 0 → y ≡ be32 n1 2
+  called-answered : NoneApplies (rowsFor sheet a) → (x y : ℕ) → x ≡ be16 n1 0 → y ≡ be32 n1 2
       → Called (sentFor sheet time a) sent (record { answer = answer; length = x; to = y }) s1
   called-answered none x y e f =
       let k = sentBy a time sheet in
       let t = taken a sheet empty most noteSize none in
       let is : outcome answer recent s1 n1 ≡ answeredBy k (headerOf (a .message)) empty sent blank =
-      meets ∙ taken-is-sent a time sheet empty sent blank (number-same ∙ none) in
+      meets ∙ taken-is-sent a time sheet empty sent blank (rw long none) in
       let note : n1 ≡ splice blank 0 (noteBytes (k .note)) = ap (λ (o : Outcome). o .note) is in
       let fits : 0 + length (noteBytes (k .note)) ≤ length blank = omega (arith, note-length (k .note)) in
       let room : k .note .length < 65536 = omega (arith, sent-noted a time sheet, sent-fits a time sheet (t .message)) in
@@ -109,5 +104,5 @@ module _ (sheet : List ℕ) (time : ℕ) (a : Arrival) (sent recent s1 n1 : List
   -- the call of the engine
   pub called : (x y : ℕ) → x ≡ be16 n1 0 → y ≡ be32 n1 2 → Called (sentFor sheet time a) sent (record { answer = answer; length = x; to = y }) s1
   called x y e f =
-      ⊎-elim (λ z. called-answered (eqb-true _ _ z) x y e f) (λ z. called-dropped (eqb-false _ _ z) x y e f)
-      (decided (eqb (dropOf a sheet empty most noteSize) 0))
+      ⊎-elim (λ first. called-dropped (firstOf (rowsFor sheet a)) first x y e f) (λ none. called-answered none x y e f)
+      (first-or-none (rowsFor sheet a))

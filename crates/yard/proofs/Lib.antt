@@ -1,11 +1,13 @@
--- Laws that this crate's proofs and the crates above cite.
-pub mod Sheets
-pub mod Calls
-pub mod Turns
-pub mod Traces
-pub mod Messages
+-- Laws that the crates above cite (Laws), and those that this crate's own proofs cite.
+mod Sheets
+mod Holders
+mod Calls
+mod Turns
+mod Runs
+mod Traces
+mod Carried
+mod Faithful
+mod Rows
+mod Refusals
 pub mod Laws
-pub mod Faithful
-pub mod Rows
-pub mod Refusals
 pub mod Determined

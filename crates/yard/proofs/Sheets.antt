@@ -1,40 +1,34 @@
 -- Laws of a yard: its sheets are checked one by one, and the routers are asked in their order who holds an address.
-use Prim.Native.Nat.{ℕ, zero, suc, _+_, _*_, _-_, _/_, _%_, _≤_, _<_}
+use Prim.Native.Nat.{ℕ, suc, _+_, _*_, _-_, _/_, _≤_, _<_}
 use mathlib.Core.Bool.{Bool, true, false, not, _&&_}
 use mathlib.Core.List.{List}
 use mathlib.Core.Logic.{⊎-elim}
-use mathlib.Core.Path.{_≡_, refl, sym, ap, _∙_}
+use mathlib.Core.Path.{_≡_, sym, ap, _∙_}
 use native.Mathlib.Omega.{arith}
 use native.Mathlib.Nat.{add-sub-cancel-left, eq-or-lt-of-le}
 use native.Mathlib.Numerals.{add-one}
-use borrow.Author.Tests.{leb-true, not-true, not-false}
-use lib.Dec.{leb, eqb}
+use borrow.Author.Tests.{not-true, not-false}
 use lib.ListN.{length, take, drop, getD, set, length-set}
 use lib.Seq.{getD-set-same, getD-set-other}
-use Rattle.wire.specs.Numbers.{be32}
-use Rattle.rows.proofs.Tests.{both-of}
-use Rattle.entry.specs.Interface.{interfaceSize, interfaceAt}
-use Rattle.entry.specs.declared.interface.Interface.{Interface}
+use Rattle.wire.proofs.Laws.{Wholes, wholes}
+use Rattle.rows.proofs.Laws.{both-of}
 use Rattle.sheet.specs.Every.{every}
 use Rattle.sheet.specs.Sheet.{layoutOf}
-use Rattle.sheet.specs.Tables.{placeOf, interfaceOf, holderOf}
+use Rattle.sheet.specs.Tables.{holderOf}
 use Rattle.sheet.specs.declared.layout.Layout.{Layout}
-use Rattle.sheet.specs.declared.tables.Found.{Found}
-use Rattle.sheet.specs.declared.tables.Found.the-variants.{At, Nothing}
-use Rattle.sheet.proofs.Entries.{interfaces-few}
-use Rattle.sheet.proofs.Holders.{holder-there}
-use Rattle.sheet.proofs.Reading.{searched, search-start as sheet-start, search-found as sheet-found, search-on as sheet-on}
+use Rattle.sheet.specs.declared.tables.Holding.{Holding}
+use Rattle.sheet.specs.declared.tables.Holding.the-variants.{At, Nowhere}
 use Rattle.yard.specs.declared.Holder.the-variants.{Held, Nobody}
-use Rattle.yard.specs.Ready.{Counted, Checked}
-use Rattle.yard.specs.Yard.{routersIn, sheetAt, validAt, sizeOk, yardOk, heldBy, lowestFrom, holderIn}
+use Rattle.yard.specs.Inside.{Counted, YardChecked}
+use Rattle.yard.specs.Yard.{sheetSize, mostRouters, routersIn, sheetAt, validAt, yardSizeOk, yardOk, heldBy, lowestFrom, holderIn}
 
 -- the part of a yard that is lent for router i
-pub lent-sheet : (yard : List ℕ) (i : ℕ) → take (1024 * i + 1024 - 1024 * i) (drop (1024 * i) yard) ≡ sheetAt yard i
+pub lent-sheet : (yard : List ℕ) (i : ℕ) → take (sheetSize * i + sheetSize - sheetSize * i) (drop (sheetSize * i) yard) ≡ sheetAt yard i
 unfolding sheetAt
 lent-sheet yard i = rw add-sub-cancel-left
 
 -- one sheet more is checked, and its interfaces are counted
-module _ (yard : List ℕ) (i : ℕ) (l : Layout) (told : l ≡ layoutOf (take (1024 * i + 1024 - 1024 * i) (drop (1024 * i) yard))) where
+module _ (yard : List ℕ) (i : ℕ) (l : Layout) (told : l ≡ layoutOf (take (sheetSize * i + sheetSize - sheetSize * i) (drop (sheetSize * i) yard))) where
   layout-is : l ≡ layoutOf (sheetAt yard i)
   layout-is = told ∙ rw (lent-sheet yard i)
 
@@ -73,62 +67,35 @@ module _ (yard : List ℕ) (n i : ℕ) (low : i ≤ n) (high : n ≤ i) where
   pub counted-all : (counts : List ℕ) → Counted yard counts i → Counted yard counts n
   counted-all counts c = rw all-of at c
 
--- the sizes of a yard
-pub record Sized (size : ℕ) : Type 0 where
-  pub whole : 1024 * (size / 1024) ≤ size
-  pub some : 1 ≤ size / 1024
-  pub few : size / 1024 ≤ 32
-
-pub sized : (size : ℕ) → sizeOk size ≡ true → Sized size
-sized size e =
-    let p = both-of (eqb (size % 1024) 0 && leb 1 (size / 1024)) (leb (size / 1024) 32) e in
-    let q = both-of (eqb (size % 1024) 0) (leb 1 (size / 1024)) (p .0) in
-    record { whole = omega arith; some = leb-true 1 (size / 1024) (q .1); few = leb-true (size / 1024) 32 (p .1) }
-
-module _ (yard : List ℕ) (size : Bool) (told : size ≡ sizeOk (length yard)) where
-  pub wrong-size : (counts : List ℕ) → not size ≡ true → Checked yard false counts
+-- a yard is checked: its size, and its sheets
+module _ (yard : List ℕ) (size : Bool) (told : size ≡ yardSizeOk (length yard)) where
+  pub wrong-size : (counts : List ℕ) → not size ≡ true → YardChecked yard false counts
   unfolding yardOk
   wrong-size counts e = record { is = rw (← told, not-true size e); counted = λ z. let y : _≡_ {A = ℕ} 0 1 = cc in absurd (omega arith) }
 
   module _ (right : not size ≡ false) where
-    yard-sized : Sized (length yard)
-    yard-sized = sized (length yard) (sym told ∙ not-false size right)
+    yard-sized : Wholes sheetSize mostRouters (length yard)
+    yard-sized = wholes sheetSize mostRouters (length yard) (sym told ∙ not-false size right)
 
-    pub sheets-few : length yard / 1024 ≤ 32
+    pub sheets-few : length yard / sheetSize ≤ mostRouters
     sheets-few = yard-sized .few
 
-    pub sheets-counted : (counts : List ℕ) → 32 ≤ length counts → length yard / 1024 ≤ length counts
+    pub sheets-counted : (counts : List ℕ) → mostRouters ≤ length counts → length yard / sheetSize ≤ length counts
     sheets-counted counts h = omega (arith, yard-sized .few)
 
-    pub yard-checked : (ok : Bool) (counts : List ℕ) → (ok ≡ every (validAt yard) (length yard / 1024)) × Counted yard counts (length yard / 1024) → Checked yard ok counts
+    pub yard-checked : (ok : Bool) (counts : List ℕ) → (ok ≡ every (validAt yard) (length yard / sheetSize)) × Counted yard counts (length yard / sheetSize) → YardChecked yard ok counts
     unfolding yardOk
     yard-checked ok counts e = record { is = rw (← told, not-false size right) (e .0); counted = λ z. e .1 }
 
 -- a yard that is right: its sizes, and each of its sheets
-pub yard-right : (yard : List ℕ) → yardOk yard ≡ true → Sized (length yard)
+pub yard-right : (yard : List ℕ) → yardOk yard ≡ true → Wholes sheetSize mostRouters (length yard)
 unfolding yardOk
-yard-right yard e = sized (length yard) (both-of (sizeOk (length yard)) _ e .0)
+yard-right yard e = wholes sheetSize mostRouters (length yard) (both-of (yardSizeOk (length yard)) _ e .0)
 
--- the interface that is read, and the count of a router that is asked
-pub address-read : (s : List ℕ) (k : ℕ) (x : Interface) → x ≡ interfaceOf s k → x .address ≡ be32 s (placeOf interfaceSize 0 k)
-unfolding interfaceOf interfaceAt
-address-read s k x e = ap (λ (y : Interface). y .address) e
-
+-- the count of a router that is asked
 pub count-told : (yard counts : List ℕ) (n i : ℕ) → Counted yard counts n → i < n
-    → getD counts i 0 ≡ layoutOf (take (1024 * i + 1024 - 1024 * i) (drop (1024 * i) yard)) .interfaces
+    → getD counts i 0 ≡ layoutOf (take (sheetSize * i + sheetSize - sheetSize * i) (drop (sheetSize * i) yard)) .interfaces
 count-told yard counts n i c h = c .each i h ∙ rw (lent-sheet yard i)
-
--- the whole search of a sheet is the search from interface k on
-module _ (s : List ℕ) (address interfaces k : ℕ) (so-far : holderOf s address ≡ searched s address k (interfaces - k)) (more : k < interfaces)
-    (x : Interface) (read : x ≡ interfaceOf s k) where
-  pub here-found : x .address ≡ address → At k ≡ holderOf s address
-  here-found = sheet-found s address k interfaces so-far more (x .address) (placeOf interfaceSize 0 k) refl (address-read s k x read)
-
-  pub here-on : (x .address ≡ address → ⊥) → holderOf s address ≡ searched s address (k + 1) (interfaces - (k + 1))
-  here-on = sheet-on s address k interfaces so-far more (x .address) (placeOf interfaceSize 0 k) refl (address-read s k x read)
-
-pub here-start : (s : List ℕ) (address interfaces : ℕ) → interfaces ≡ layoutOf s .interfaces → holderOf s address ≡ searched s address 0 (interfaces - 0)
-here-start s address interfaces e = sheet-start s (layoutOf s) refl address ∙ rw e
 
 -- the whole search is the search from router i on
 module _ (yard : List ℕ) (address n : ℕ) where
@@ -141,48 +108,16 @@ module _ (yard : List ℕ) (address n : ℕ) where
     unfolding lowestFrom
     step h = let e : n - i ≡ suc (n - (i + 1)) = omega arith in so-far ∙ rw e
 
-    module _ (found : Found) (told : found ≡ holderOf (take (1024 * i + 1024 - 1024 * i) (drop (1024 * i) yard)) address) (here : i < n) where
+    module _ (found : Holding) (told : found ≡ holderOf (take (sheetSize * i + sheetSize - sheetSize * i) (drop (sheetSize * i) yard)) address) (here : i < n) where
       asked : holderOf (sheetAt yard i) address ≡ found
       asked = sym (told ∙ rw (lent-sheet yard i))
 
       pub search-found : (k : ℕ) → found ≡ At k → Held i k ≡ holderIn yard address
       search-found k e = rw (step here, asked, e)
 
-      pub search-on : found ≡ Nothing → holderIn yard address ≡ lowestFrom yard address (i + 1) (n - (i + 1))
+      pub search-on : found ≡ Nowhere → holderIn yard address ≡ lowestFrom yard address (i + 1) (n - (i + 1))
       search-on e = step here ∙ rw (asked, e)
 
     pub search-none : n ≤ i → Nobody ≡ holderIn yard address
     unfolding lowestFrom
     search-none h = let e : n - i ≡ 0 = omega arith in rw (so-far, e)
-
--- who is found is a router of the yard, and one of its few interfaces, which holds the address
-pub record Holds (yard : List ℕ) (address from end i k : ℕ) : Type 0 where
-  pub low : from ≤ i
-  pub there : i < end
-  pub few : k < 64
-  pub holds : holderOf (sheetAt yard i) address ≡ At k
-
-found-at : (yard : List ℕ) (address n from i k : ℕ) → lowestFrom yard address from n ≡ Held i k → Holds yard address from (from + n) i k
-unfolding lowestFrom
-found-at yard address zero from i k e = let z : _≡_ {A = ℕ} 0 1 = cc in absurd (omega arith)
-found-at yard address (suc n) from i k e = by-answer (holderOf (sheetAt yard from) address) refl e (λ f. found-at yard address n (from + 1) i k f) where
-  by-answer : (f : Found) → holderOf (sheetAt yard from) address ≡ f → heldBy from f (lowestFrom yard address (from + 1) n) ≡ Held i k
-      → (lowestFrom yard address (from + 1) n ≡ Held i k → Holds yard address (from + 1) (from + 1 + n) i k) → Holds yard address from (from + suc n) i k
-  by-answer (At j) q h later =
-      let here : from ≡ i = cc in
-      let found : j ≡ k = cc in
-      record {
-        low = omega arith;
-        there = omega arith;
-        few = omega (arith, holder-there (sheetAt yard from) address j q, interfaces-few (sheetAt yard from));
-        holds = rw (← here, ← found) q;
-      }
-  by-answer Nothing q h later =
-      let l = later h in
-      record { low = omega (arith, l .low); there = omega (arith, l .there); few = l .few; holds = l .holds }
-
-pub holder-found : (yard : List ℕ) (address i k : ℕ) → holderIn yard address ≡ Held i k → Holds yard address 0 (routersIn yard) i k
-unfolding holderIn
-holder-found yard address i k e =
-    let h = found-at yard address (routersIn yard) 0 i k e in
-    record { low = h .low; there = omega (arith, h .there); few = h .few; holds = h .holds }

@@ -1,24 +1,23 @@
--- Every walk whose first router accepts is a trace: visit after visit, each of which accepts, up to an end. What is said of all
--- walks is said of traces, by a line for each of the two ways to go on from a visit.
-use Prim.Native.Nat.{ℕ, zero, suc, _+_, _*_, _≤_, _<_}
+-- Every run whose first router accepts is a trace: visit after visit, each of which accepts, up to an end. What is said of all
+-- such walks is said of traces, by a line for each of the two ways to go on from a visit.
+use Prim.Native.Nat.{ℕ, zero, suc, _+_, _*_, _-_, _≤_, _<_}
 use mathlib.Core.List.{List, [], _∷_}
-use mathlib.Core.Logic.{_⊎_, inl, inr, ⊎-elim}
+use mathlib.Core.Logic.{inl}
 use mathlib.Core.Path.{_≡_, refl}
 use native.Mathlib.Omega.{arith}
-use borrow.Author.Tests.{eqb-true, eqb-false}
-use lib.Dec.{eqb}
 use lib.ListN.{length, getD}
-use Rattle.rows.proofs.Tests.{decided}
 use Rattle.recent.specs.Entries.{empty}
-use Rattle.message.specs.Format.{most, standardSize}
-use Rattle.message.proofs.Accept.{Accepted}
-use Rattle.drops.specs.Drop.{noteSize}
-use Rattle.engine.specs.Answer.{sentOn, sentHome}
-use Rattle.engine.proofs.LawsDrop.{taken}
-use Rattle.engine.proofs.LawsOn.{blocks-below-hops}
+use Rattle.response.specs.declared.Block.{Block}
+use Rattle.message.specs.Format.{most, standardSize, noteSize}
+use Rattle.message.specs.Room.{hopsLeft}
+use Rattle.message.proofs.Laws.{Accepted}
+use Rattle.drops.proofs.Laws.{Taken, taken}
+use Rattle.engine.proofs.Laws.{blocks-below-hops}
 use Rattle.yard.specs.Yard.{sheetAt}
-use Rattle.yard.specs.Walk.{toGroup, nobodyThere, unused, Visit, sentAt, endOf, nextOf, Walk, walkBy, walkFrom}
-use Rattle.yard.proofs.Turns.{Accepts, blockFor, Onward, Ending, full, home, group, nobody, goes-on, stops, next-is, next-accepts, falls, walk-ends, walk-on}
+use Rattle.yard.specs.Walk.{Visit, sentAt, nextOf, Walk, walkFrom}
+use Rattle.yard.specs.Faithful.{Walks, run-over, run-on, Accepts, blockFor, EndsWell, mostSteps}
+use Rattle.yard.proofs.Turns.{Onward, Ending, full, longer, goes-on, stops, next-is, next-accepts, falls}
+use Rattle.yard.proofs.Runs.{walk-runs}
 
 pub data Trace (yard times : List ℕ) : Visit → List Visit → ℕ → List ℕ → Type 0 where
   ends : {v : Visit} {end : ℕ} {last : List ℕ} → Accepts yard v → Ending (v .arrival .message) (blockFor yard times v) end last
@@ -30,42 +29,49 @@ abbrev pub TraceOf : List ℕ → List ℕ → Visit → Walk → Type 0
 TraceOf yard times v w = Trace yard times v (w .visits) (w .end) (w .last)
 
 module _ (yard times : List ℕ) where
-  pub traced : (n : ℕ) (v : Visit) → Accepts yard v → unused (v .arrival .message) < n → TraceOf yard times v (walkBy n yard times v)
-  traced zero v accepts h = absurd (omega arith)
-  traced (suc n) v accepts h =
-      ⊎-elim
-      (λ e. let on = eqb-true _ _ e in let o = goes-on yard times v on in
-      rw (walk-on yard times v on n) (goes o (traced n (nextOf yard (sentAt yard times v)) (next-accepts yard times v o) (omega (arith, falls yard times v o)))))
-      (λ e. rw (walk-ends yard times v (eqb-false _ _ e) n) (ends accepts (stops yard times v accepts (eqb-false _ _ e))))
-      (decided (eqb (endOf yard (sentAt yard times v)) sentOn))
+  pub traced : {v : Visit} {vs : List Visit} {end : ℕ} {last : List ℕ} → Walks yard times v vs end last → Accepts yard v → Trace yard times v vs end last
+  traced {v} (run-over off) accepts = ends accepts (stops yard times v accepts off)
+  traced {v} (run-on on r) accepts = let o = goes-on yard times v on in goes o (traced r (next-accepts yard times v o))
 
   pub walk-traced : (v : Visit) → Accepts yard v → TraceOf yard times v (walkFrom yard times v)
-  unfolding walkFrom
-  walk-traced v accepts = traced (suc (unused (v .arrival .message))) v accepts (omega arith)
+  walk-traced v = traced (walk-runs yard times v)
 
   -- what a visit that accepts has received
+  takes : (v : Visit) → Accepts yard v → Taken (v .arrival) (sheetAt yard (v .router)) empty most noteSize
+  takes v = taken (v .arrival) (sheetAt yard (v .router)) empty most noteSize
+
   pub received-right : (v : Visit) → Accepts yard v → Accepted (v .arrival .message)
-  received-right v accepts = taken (v .arrival) (sheetAt yard (v .router)) empty most noteSize accepts .message
+  received-right v accepts = takes v accepts .message
 
   -- no more steps than hops that are not yet used
-  pub steps-by-hops : {v : Visit} {vs : List Visit} {end : ℕ} {last : List ℕ} → Trace yard times v vs end last → length vs ≤ unused (v .arrival .message)
+  pub steps-by-hops : {v : Visit} {vs : List Visit} {end : ℕ} {last : List ℕ} → Trace yard times v vs end last → length vs ≤ hopsLeft (v .arrival .message)
   steps-by-hops {v} (ends accepts e) =
-      omega (arith, blocks-below-hops (v .arrival) (sheetAt yard (v .router)) empty most noteSize (taken (v .arrival) (sheetAt yard (v .router)) empty most noteSize accepts))
+      omega (arith, blocks-below-hops (v .arrival) (sheetAt yard (v .router)) empty most noteSize (takes v accepts))
   steps-by-hops {v} (goes o t) = omega (arith, falls yard times v o, steps-by-hops t)
 
   -- no more steps than there is room for blocks, and one
-  pub steps-by-room : {v : Visit} {vs : List Visit} {end : ℕ} {last : List ℕ} → Trace yard times v vs end last
+  steps-by-room : {v : Visit} {vs : List Visit} {end : ℕ} {last : List ℕ} → Trace yard times v vs end last
       → length (v .arrival .message) + standardSize * length vs ≤ most + standardSize
   steps-by-room {v} (ends accepts e) = omega (arith, received-right v accepts .high)
   steps-by-room {v} (goes o t) = omega (arith, o .grown .long, rw (next-is yard times v o) at (steps-by-room t))
 
+  -- so that no run has more than 28, also one that its first router drops
+  steps-by-size : {v : Visit} {vs : List Visit} {end : ℕ} {last : List ℕ} → Walks yard times v vs end last → length vs ≤ mostSteps
+  steps-by-size (run-over off) = omega arith
+  steps-by-size {v} (run-on on r) =
+      let accepts = goes-on yard times v on .accepts in
+      omega (arith, steps-by-room (traced (run-on on r) accepts), received-right v accepts .low)
+
+  pub walk-within : (v : Visit) → length (walkFrom yard times v .visits) ≤ mostSteps
+  walk-within v = steps-by-size (walk-runs yard times v)
+
   -- no later router drops: the end is 101, 102 or 103
-  pub ends-well : {v : Visit} {vs : List Visit} {end : ℕ} {last : List ℕ} → Trace yard times v vs end last
-      → (end ≡ sentHome) ⊎ ((end ≡ toGroup) ⊎ (end ≡ nobodyThere))
-  ends-well (ends accepts (full h)) = inl refl
-  ends-well (ends accepts (home h)) = inl refl
-  ends-well (ends accepts (group h)) = inr (inl refl)
-  ends-well (ends accepts (nobody h)) = inr (inr refl)
+  ending-well : {m : List ℕ} {b : Block} {end : ℕ} {last : List ℕ} → Ending m b end last → EndsWell end
+  ending-well (full h) = inl refl
+  ending-well (longer kind h well) = well
+
+  pub ends-well : {v : Visit} {vs : List Visit} {end : ℕ} {last : List ℕ} → Trace yard times v vs end last → EndsWell end
+  ends-well (ends accepts e) = ending-well e
   ends-well (goes o t) = ends-well t
 
   -- the visits: the first, that each goes where the message before it was sent, and that each router accepts
@@ -85,3 +91,14 @@ module _ (yard times : List ℕ) where
   none-drops (ends accepts e) w (suc k) h = absurd (omega arith)
   none-drops (goes o t) w zero h = o .accepts
   none-drops (goes o t) w (suc k) h = none-drops t w k (omega arith)
+
+  -- there is a last visit, and it ends the trace
+  pub some-visits : {v : Visit} {vs : List Visit} {end : ℕ} {last : List ℕ} → Trace yard times v vs end last → 0 < length vs
+  some-visits (ends accepts e) = omega arith
+  some-visits (goes o t) = omega arith
+
+  pub ended-by : {v : Visit} {vs : List Visit} {end : ℕ} {last : List ℕ} → Trace yard times v vs end last → (w : Visit)
+      → Ending (getD vs (length vs - 1) w .arrival .message) (blockFor yard times (getD vs (length vs - 1) w)) end last
+  ended-by (ends accepts e) w = e
+  ended-by (goes {later = later} o t) w =
+      let one : suc (length later) - 1 ≡ suc (length later - 1) = omega (arith, some-visits t) in rw one (ended-by t w)

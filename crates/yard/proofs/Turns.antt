@@ -1,6 +1,6 @@
 -- Laws of one turn of the walk: it ends here, or it goes on to the router that holds the destination, which does not drop what
 -- arrives, and the hops not yet used are one fewer.
-use Prim.Native.Nat.{ℕ, suc, _+_, _≤_, _<_}
+use Prim.Native.Nat.{ℕ, suc, _≤_}
 use mathlib.Core.Bool.{true, false}
 use mathlib.Core.List.{List}
 use mathlib.Core.Logic.{_⊎_, inl, inr, ⊎-elim}
@@ -10,32 +10,25 @@ use borrow.Author.Tests.{eq-eqb, ne-eqb, eqb-true, eqb-false}
 use lib.Dec.{eqb}
 use lib.ListN.{length, getD}
 use Rattle.wire.specs.Addresses.{multicast}
-use Rattle.rows.proofs.Tests.{decided}
+use Rattle.rows.proofs.Laws.{decided, first-or-none}
 use Rattle.recent.specs.Entries.{empty}
 use Rattle.response.specs.declared.Block.{Block}
-use Rattle.response.specs.Fill.{blockOf}
-use Rattle.message.specs.Format.{most, request, reply, standardSize}
+use Rattle.message.specs.Format.{most, request, reply, noteSize}
+use Rattle.message.specs.Room.{Full, HasRoom, hopsLeft}
 use Rattle.drops.specs.Arrival.{arrival}
-use Rattle.drops.specs.Drop.{noteSize, dropOf}
-use Rattle.engine.specs.View.{viewOf}
+use Rattle.drops.specs.Drop.{nearTtl}
+use Rattle.rows.specs.Rows.{firstOf}
 use Rattle.engine.specs.Answer.{Sent, sentOn, sentHome, fullMessage, longerMessage, sentBy}
-use Rattle.engine.proofs.LawsDrop.{Taken, taken, drop-numbers}
-use Rattle.engine.proofs.LawsSent.{sent-cases, sent-answer, sent-fits}
-use Rattle.engine.proofs.LawsOn.{Grown, sent-on-grows, no-later-drop}
+use Rattle.drops.proofs.Laws.{Taken, taken, drop-numbers}
+use Rattle.engine.proofs.Laws.{sent-cases, sent-answer, sent-fits, Grown, sent-on-grows, no-later-drop}
 use Rattle.yard.specs.declared.Holder.{Holder}
 use Rattle.yard.specs.declared.Holder.the-variants.{Held, Nobody}
-use Rattle.yard.specs.Yard.{routersIn, sheetAt, holderIn}
-use Rattle.yard.specs.Walk.{toGroup, nobodyThere, nearTtl, unused, Visit, visit, sentAt, endBy, endOf, nextOf, ends, entered, walkBy, walkFrom}
-use Rattle.yard.proofs.Sheets.{holder-found}
+use Rattle.yard.specs.Yard.{sheetAt, holderIn}
+use Rattle.yard.specs.Holders.{LowestHolder, NobodyHolds}
+use Rattle.yard.specs.Faithful.{Accepts, blockFor, EndsWell}
+use Rattle.yard.specs.Walk.{toGroup, nobodyThere, Visit, visit, rowsFor, sentAt, endBy, endOf, nextOf, endsAt, enters, walkBy, walkFrom, nextBy}
+use Rattle.yard.proofs.Holders.{holder-found, holder-unique}
 use Rattle.yard.proofs.Calls.{sent-dropped, sent-taken}
-
--- the router of a visit drops nothing
-abbrev pub Accepts : List ℕ → Visit → Type 0
-Accepts yard v = dropOf (v .arrival) (sheetAt yard (v .router)) empty most noteSize ≡ 0
-
--- the block that the engine's definition gives for a visit: of that router, and of the message that it received
-abbrev pub blockFor : List ℕ → List ℕ → Visit → Block
-blockFor yard times v = blockOf (viewOf (v .arrival) (getD times (v .router) 0) (sheetAt yard (v .router)))
 
 -- what becomes of a Request sent on
 pub record Reaches (yard : List ℕ) (sent : Sent) : Type 0 where
@@ -58,6 +51,17 @@ module _ (yard : List ℕ) (sent : Sent) where
     unfolding endOf
     end-held g = rw (eq-eqb (sent .answer) sentOn on, g)
 
+    -- by who holds the destination, said without the search for it
+    module _ (single : multicast (sent .note .destination) ≡ false) where
+      pub end-nobody : NobodyHolds yard (sent .note .destination) → endOf yard sent ≡ nobodyThere
+      end-nobody h = end-held single ∙ ap endBy (sym (holder-unique yard (sent .note .destination) Nobody h))
+
+      pub end-goes : (router interface : ℕ) → LowestHolder yard (sent .note .destination) router interface
+          → (endOf yard sent ≡ sentOn) × (nextOf yard sent ≡ visit router (arrival (sent .message) (sent .note .destination) interface nearTtl))
+      end-goes router interface h =
+          let is = sym (holder-unique yard (sent .note .destination) (Held router interface) h) in
+          (end-held single ∙ ap endBy is, ap (nextBy sent) is)
+
     -- 102, 103, or it reaches a router
     pub end-on : ((endOf yard sent ≡ toGroup) ⊎ (endOf yard sent ≡ nobodyThere)) ⊎ Reaches yard sent
     end-on =
@@ -75,13 +79,10 @@ pub record Onward (yard times : List ℕ) (v : Visit) : Type 0 where
   pub grown : Grown (v .arrival) (getD times (v .router) 0) (sheetAt yard (v .router)) (sentAt yard times v)
   pub reaches : Reaches yard (sentAt yard times v)
 
--- how a walk ends at a router that received m and gives a block: 101 a Reply, without room for the block or with it; 102 or
--- 103 the Request that goes no further
+-- how a walk ends at a router that received m and gives a block: without room for it by a Reply with NO_SPACE, or with it behind m
 pub data Ending (m : List ℕ) (b : Block) : ℕ → List ℕ → Type 0 where
-  full : most < length m + standardSize → Ending m b sentHome (fullMessage m)
-  home : length m + standardSize ≤ most → Ending m b sentHome (longerMessage reply m b)
-  group : length m + standardSize ≤ most → Ending m b toGroup (longerMessage request m b)
-  nobody : length m + standardSize ≤ most → Ending m b nobodyThere (longerMessage request m b)
+  full : Full m → Ending m b sentHome (fullMessage m)
+  longer : {end : ℕ} (kind : ℕ) → HasRoom m → EndsWell end → Ending m b end (longerMessage kind m b)
 
 ending-as : (m : List ℕ) (b : Block) (e e′ : ℕ) (last last′ : List ℕ) → e ≡ e′ → last ≡ last′ → Ending m b e′ last′ → Ending m b e last
 ending-as m b e e′ last last′ p q x = rw (p, q) x
@@ -105,12 +106,13 @@ module _ (yard times : List ℕ) (v : Visit) where
   -- what sends on does not drop
   on-accepts : sent .answer ≡ sentOn → Accepts yard v
   on-accepts on =
-      let number = dropOf (v .arrival) (sheetAt yard (v .router)) empty most noteSize in
-      ⊎-elim (λ z. eqb-true number 0 z)
-      (λ z.
-      let dropped : sent .answer ≡ number = ap (λ (s : Sent). s .answer) (sent-dropped (sheetAt yard (v .router)) (getD times (v .router) 0) (v .arrival) (eqb-false number 0 z)) in
+      let rows = rowsFor (sheetAt yard (v .router)) (v .arrival) in
+      ⊎-elim
+      (λ f.
+      let dropped : sent .answer ≡ firstOf rows = ap (λ (s : Sent). s .answer) (sent-dropped (sheetAt yard (v .router)) (getD times (v .router) 0) (v .arrival) (firstOf rows) f) in
       absurd (omega (arith, drop-numbers (v .arrival) (sheetAt yard (v .router)) empty most noteSize)))
-      (decided (eqb number 0))
+      (λ none. none)
+      (first-or-none rows)
 
   grows : Accepts yard v → sent .answer ≡ sentOn → Grown (v .arrival) (getD times (v .router) 0) (sheetAt yard (v .router)) sent
   grows accepts on =
@@ -128,7 +130,7 @@ module _ (yard times : List ℕ) (v : Visit) where
           reaches = ⊎-elim (λ x. ⊎-elim (λ g. absurd (omega arith)) (λ n. absurd (omega arith)) x) (λ r. r) (end-on yard sent on);
         }
 
-  -- and where it is not, an accepted message ends it in one of the four ways
+  -- and where it is not, an accepted message ends it in one of the two ways
   pub stops : Accepts yard v → (endOf yard sent ≡ sentOn → ⊥) → Ending m (blockFor yard times v) (endOf yard sent) (sent .message)
   stops accepts e = ⊎-elim on home-again (sent-answer (v .arrival) (getD times (v .router) 0) (sheetAt yard (v .router))) where
     as-here : sent .answer ≡ here .answer
@@ -138,7 +140,7 @@ module _ (yard times : List ℕ) (v : Visit) where
     on q =
         let g = grows accepts (as-here ∙ q) in
         ⊎-elim
-        (λ x. ⊎-elim (λ z. ending-as _ _ _ _ _ _ z (g .message) (group (g .room))) (λ z. ending-as _ _ _ _ _ _ z (g .message) (nobody (g .room))) x)
+        (λ x. ending-as _ _ _ _ _ _ refl (g .message) (longer request (g .room) (inr x)))
         (λ r. absurd (e (r .on)))
         (end-on yard sent (as-here ∙ q))
 
@@ -150,24 +152,21 @@ module _ (yard times : List ℕ) (v : Visit) where
         ending-as _ _ _ _ _ _ end message
         (sent-cases (v .arrival) (getD times (v .router) 0) (sheetAt yard (v .router))
         (λ (s : Sent). s .answer ≡ sentHome → Ending m (blockFor yard times v) sentHome (s .message))
-        (λ h z. full h) (λ h x z. home h) (λ h x z. absurd (omega arith)) q)
+        (λ h z. full h) (λ h x z. longer reply h (inl refl)) (λ h x z. absurd (omega arith)) q)
 
   -- what is sent fits, whatever arrives
   pub sent-short : length (sent .message) ≤ most
   sent-short =
-      let number = dropOf (v .arrival) (sheetAt yard (v .router)) empty most noteSize in
+      let rows = rowsFor (sheetAt yard (v .router)) (v .arrival) in
       ⊎-elim
-      (λ z. rw (sent-here (eqb-true number 0 z)) (sent-fits (v .arrival) (getD times (v .router) 0) (sheetAt yard (v .router)) (takes (eqb-true number 0 z) .message)))
-      (λ z. rw (sent-dropped (sheetAt yard (v .router)) (getD times (v .router) 0) (v .arrival) (eqb-false number 0 z)) (omega arith))
-      (decided (eqb number 0))
+      (λ f. rw (sent-dropped (sheetAt yard (v .router)) (getD times (v .router) 0) (v .arrival) (firstOf rows) f) (omega arith))
+      (λ none. rw (sent-here none) (sent-fits (v .arrival) (getD times (v .router) 0) (sheetAt yard (v .router)) (takes none .message)))
+      (first-or-none rows)
 
   -- the next visit
   module _ (o : Onward yard times v) where
     pub next-is : nextOf yard sent ≡ visit (o .reaches .router) (arrival (sent .message) (sent .note .destination) (o .reaches .interface) nearTtl)
     next-is = rw (o .reaches .held)
-
-    pub next-there : o .reaches .router < routersIn yard
-    next-there = holder-found yard (sent .note .destination) (o .reaches .router) (o .reaches .interface) (o .reaches .held) .there
 
     -- no later router drops
     pub next-accepts : Accepts yard (nextOf yard sent)
@@ -177,22 +176,22 @@ module _ (yard times : List ℕ) (v : Visit) where
         rw next-is
         (no-later-drop (sent .message) (sent .note .destination) (o .reaches .interface) (sheetAt yard (o .reaches .router)) (g .accepts) (rw (g .header)) (g .few) (h .holds))
 
-    pub falls : unused m ≡ suc (unused (nextOf yard sent .arrival .message))
+    pub falls : hopsLeft m ≡ suc (hopsLeft (nextOf yard sent .arrival .message))
     falls = rw next-is (o .grown .falls)
 
   -- one turn of the definition
-  pub walk-ends : (endOf yard sent ≡ sentOn → ⊥) → (n : ℕ) → walkBy (suc n) yard times v ≡ ends (endOf yard sent) v (sent .message)
+  pub walk-ends : (endOf yard sent ≡ sentOn → ⊥) → (n : ℕ) → walkBy (suc n) yard times v ≡ endsAt (endOf yard sent) v (sent .message)
   unfolding walkBy
   walk-ends e n = rw (ne-eqb (endOf yard sent) sentOn e)
 
-  pub walk-on : endOf yard sent ≡ sentOn → (n : ℕ) → walkBy (suc n) yard times v ≡ entered v (walkBy n yard times (nextOf yard sent))
+  pub walk-on : endOf yard sent ≡ sentOn → (n : ℕ) → walkBy (suc n) yard times v ≡ enters v (walkBy n yard times (nextOf yard sent))
   unfolding walkBy
   walk-on e n = rw (eq-eqb (endOf yard sent) sentOn e)
 
-  pub from-ends : (endOf yard sent ≡ sentOn → ⊥) → walkFrom yard times v ≡ ends (endOf yard sent) v (sent .message)
+  pub from-ends : (endOf yard sent ≡ sentOn → ⊥) → walkFrom yard times v ≡ endsAt (endOf yard sent) v (sent .message)
   unfolding walkFrom
-  from-ends e = walk-ends e (unused m)
+  from-ends e = walk-ends e (hopsLeft m)
 
-  pub from-on : endOf yard sent ≡ sentOn → walkFrom yard times v ≡ entered v (walkFrom yard times (nextOf yard sent))
+  pub from-on : endOf yard sent ≡ sentOn → walkFrom yard times v ≡ enters v (walkFrom yard times (nextOf yard sent))
   unfolding walkFrom
-  from-on e = walk-on e (unused m) ∙ rw (falls (goes-on e))
+  from-on e = walk-on e (hopsLeft m) ∙ rw (falls (goes-on e))

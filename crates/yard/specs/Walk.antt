@@ -1,6 +1,6 @@
 -- The walk (document 01, "Walk"): the routers that a trace enters, in order, with what each receives; its end; and the last
 -- message sent.
-use Prim.Native.Nat.{ℕ, zero, suc, _-_}
+use Prim.Native.Nat.{ℕ, zero, suc}
 use mathlib.Core.Bool.{not, cond}
 use mathlib.Core.List.{List, [], _∷_}
 use mathlib.Core.Path.{_≡_}
@@ -9,12 +9,13 @@ use lib.ListN.{length, getD}
 use Rattle.wire.specs.Numbers.{byteAt}
 use Rattle.wire.specs.Parts.{splice}
 use Rattle.wire.specs.Addresses.{multicast}
+use Rattle.rows.specs.Rows.{Row, row, byFirst}
 use Rattle.recent.specs.Entries.{empty}
-use Rattle.message.specs.Format.{most, request}
-use Rattle.message.specs.Header.{headerOf}
+use Rattle.message.specs.Format.{most, request, noteSize}
 use Rattle.message.specs.Blocks.{standardCount}
+use Rattle.message.specs.Room.{hopsLeft}
 use Rattle.drops.specs.Arrival.{Arrival, arrival}
-use Rattle.drops.specs.Drop.{noteSize, dropOf}
+use Rattle.drops.specs.Drop.{dropRoom, nearTtl, table}
 use Rattle.engine.specs.Answer.{Sent, sentOn, sentBy}
 use Rattle.yard.specs.declared.Walked.{Walked}
 use Rattle.yard.specs.declared.Holder.{Holder}
@@ -28,19 +29,25 @@ toGroup = 102
 abbrev pub nobodyThere : ℕ
 nobodyThere = 103
 
--- the TTL with which a Request sent on arrives
-abbrev pub nearTtl : ℕ
-nearTtl = 255
+-- the refusals besides 1, output: 21 yard, 22 times, 23 start router, 24 a message of type 2
+abbrev pub walkYard : ℕ
+walkYard = 21
 
--- the hops of a message that are not yet used
-abbrev pub unused : List ℕ → ℕ
-unused m = headerOf m .hops - standardCount m
+abbrev pub walkTimes : ℕ
+walkTimes = 22
+
+abbrev pub walkStart : ℕ
+walkStart = 23
+
+abbrev pub walkRequest : ℕ
+walkRequest = 24
 
 -- a router entered, and what arrives there
 pub record Visit : Type 0 where
   pub router : ℕ
   pub arrival : Arrival
 
+-- the visit to a router with what arrives there
 abbrev pub visit : ℕ → Arrival → Visit
 visit router arrival = record { router = router; arrival = arrival }
 
@@ -49,12 +56,13 @@ abbrev pub notSent : ℕ → Sent
 notSent number =
     record { answer = number; message = []; note = record { length = 0; destination = 0; port = 0; interface = 0; source = 0 } }
 
--- what a router sends for what arrives, with an empty recent list
+-- the rows of the drop table at a router, with an empty recent list and all the room that is asked for
+abbrev pub rowsFor : List ℕ → Arrival → List Row
+rowsFor sheet a = table a sheet empty most noteSize
+
+-- what a router sends for what arrives
 unfoldable pub sentFor : List ℕ → ℕ → Arrival → Sent
-sentFor sheet time a =
-    let number = dropOf a sheet empty most noteSize in
-    let sent = sentBy a time sheet in
-    cond (eqb number 0) sent (notSent number)
+sentFor sheet time a = byFirst notSent (sentBy a time sheet) (rowsFor sheet a)
 
 -- the router of a visit, by its sheet and its time
 abbrev pub sentAt : List ℕ → List ℕ → Visit → Sent
@@ -76,6 +84,7 @@ abbrev pub nextBy : Sent → Holder → Visit
 nextBy sent (Held router interface) = visit router (arrival (sent .message) (sent .note .destination) interface nearTtl)
 nextBy sent Nobody = visit 0 (arrival [] 0 0 0)
 
+-- where what is sent is received next
 abbrev pub nextOf : List ℕ → Sent → Visit
 nextOf yard sent = nextBy sent (holderIn yard (sent .note .destination))
 
@@ -85,50 +94,55 @@ pub record Walk : Type 0 where
   pub visits : List Visit
   pub last : List ℕ
 
--- it ends here, or goes on from here
-abbrev pub ends : ℕ → Visit → List ℕ → Walk
-ends end v last = record { end = end; visits = v ∷ []; last = last }
+-- it ends at this visit
+abbrev pub endsAt : ℕ → Visit → List ℕ → Walk
+endsAt end v last = record { end = end; visits = v ∷ []; last = last }
 
-abbrev pub entered : Visit → Walk → Walk
-entered v later = record { end = later .end; visits = v ∷ later .visits; last = later .last }
+-- it goes on from this visit
+abbrev pub enters : Visit → Walk → Walk
+enters v later = record { end = later .end; visits = v ∷ later .visits; last = later .last }
 
 -- refused: nobody is entered
-abbrev pub refused : ℕ → Walk
-refused end = record { end = end; visits = []; last = [] }
+abbrev pub refusedWalk : ℕ → Walk
+refusedWalk number = record { end = number; visits = []; last = [] }
 
 -- the walk from a visit on, in at most so many steps
 unfoldable pub walkBy : ℕ → List ℕ → List ℕ → Visit → Walk
-walkBy zero yard times v = refused 0
+walkBy zero yard times v = refusedWalk 0
 walkBy (suc steps) yard times v =
     let sent = sentAt yard times v in
     let end = endOf yard sent in
-    let later = entered v (walkBy steps yard times (nextOf yard sent)) in
-    cond (eqb end sentOn) later (ends end v (sent .message))
+    let later = enters v (walkBy steps yard times (nextOf yard sent)) in
+    cond (eqb end sentOn) later (endsAt end v (sent .message))
 
 -- the hops that are not yet used, and one, are steps enough
 unfoldable pub walkFrom : List ℕ → List ℕ → Visit → Walk
-walkFrom yard times v = walkBy (suc (unused (v .arrival .message))) yard times v
+walkFrom yard times v = walkBy (suc (hopsLeft (v .arrival .message))) yard times v
 
--- the refusals in their order: 1 output, 21 yard, 22 times, 23 start router, 24 a message of type 2
+-- the refusals in their order
+unfoldable pub walkRows : List ℕ → List ℕ → Visit → ℕ → List Row
+walkRows yard times v output =
+    row dropRoom (ltb output most)
+    ∷ row walkYard (not (yardOk yard))
+    ∷ row walkTimes (ltb (length times) (routersIn yard))
+    ∷ row walkStart (leb (routersIn yard) (v .router))
+    ∷ row walkRequest (eqb (byteAt (v .arrival .message) 0) request)
+    ∷ []
+
+-- the first refusal that applies, or else the walk from the start
 unfoldable pub walkOf : List ℕ → List ℕ → Visit → ℕ → Walk
-walkOf yard times v output =
-    let walk = walkFrom yard times v in
-    cond (ltb output most) (refused 1)
-    (cond (not (yardOk yard)) (refused 21)
-    (cond (ltb (length times) (routersIn yard)) (refused 22)
-    (cond (leb (routersIn yard) (v .router)) (refused 23)
-    (cond (eqb (byteAt (v .arrival .message) 0) request) (refused 24)
-    walk))))
+walkOf yard times v output = byFirst refusedWalk (walkFrom yard times v) (walkRows yard times v output)
 
--- what is answered for a walk: its end, its steps, the type 4 blocks and the length of the last message sent, which stands in
--- the output; the bytes past it stay
+-- what is answered for a walk: its end, its steps, the type 4 blocks and the length of the last message sent
+abbrev pub walkedOf : Walk → Walked
+walkedOf w =
+    record { end = w .end; steps = length (w .visits); blocks = standardCount (w .last); length = length (w .last) }
+
+-- a walk is told: the answer is its own, and the last message sent stands in the output, whose bytes past it stay
 pub record Tells (w : Walk) (output : List ℕ) (r : Walked) (output′ : List ℕ) : Type 0 where
-  pub end : r .end ≡ w .end
-  pub steps : r .steps ≡ length (w .visits)
-  pub blocks : r .blocks ≡ standardCount (w .last)
-  pub long : r .length ≡ length (w .last)
+  pub answer : r ≡ walkedOf w
   pub sends : output′ ≡ splice output 0 (w .last)
 
 -- what the walk promises
-abbrev pub WalkMeets : List ℕ → List ℕ → Visit → List ℕ → Walked → List ℕ → Type 0
-WalkMeets yard times v output r output′ = Tells (walkOf yard times v (length output)) output r output′
+abbrev pub WalkTells : List ℕ → List ℕ → Visit → List ℕ → Walked → List ℕ → Type 0
+WalkTells yard times v output r output′ = Tells (walkOf yard times v (length output)) output r output′

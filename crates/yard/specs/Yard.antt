@@ -1,47 +1,49 @@
 -- A yard (document 01, "Walk"): 1 to 32 sheets of 1024 bytes, one for each router, and who of them holds an address.
-use Prim.Native.Nat.{ℕ, zero, suc, _+_, _*_, _/_, _%_}
+use Prim.Native.Nat.{ℕ, zero, suc, _+_, _*_, _/_}
 use mathlib.Core.Bool.{Bool, _&&_}
 use mathlib.Core.List.{List}
-use lib.Dec.{leb, eqb}
 use lib.ListN.{length}
-use Rattle.wire.specs.Parts.{part}
+use Rattle.wire.specs.Parts.{part, wholeParts}
 use Rattle.sheet.specs.Every.{every}
 use Rattle.sheet.specs.Sheet.{layoutOf}
 use Rattle.sheet.specs.Tables.{holderOf}
-use Rattle.sheet.specs.declared.tables.Found.{Found}
-use Rattle.sheet.specs.declared.tables.Found.the-variants.{At, Nothing}
+use Rattle.sheet.specs.declared.tables.Holding.{Holding}
+use Rattle.sheet.specs.declared.tables.Holding.the-variants.{At, Nowhere}
 use Rattle.yard.specs.declared.Holder.{Holder}
 use Rattle.yard.specs.declared.Holder.the-variants.{Held, Nobody}
 
--- bytes of a router's sheet
+-- the bytes of a router's sheet in a yard
 abbrev pub sheetSize : ℕ
 sheetSize = 1024
 
+-- a yard has at most so many
 abbrev pub mostRouters : ℕ
 mostRouters = 32
 
--- how many routers there are, and the sheet of router i
+-- how many routers there are
 abbrev pub routersIn : List ℕ → ℕ
 routersIn yard = length yard / sheetSize
 
+-- the sheet of router i
 unfoldable pub sheetAt : List ℕ → ℕ → List ℕ
 sheetAt yard i = part (sheetSize * i) sheetSize yard
 
+-- whether it is valid
 abbrev pub validAt : List ℕ → ℕ → Bool
 validAt yard i = layoutOf (sheetAt yard i) .valid
 
 -- 1 to 32 whole sheets
-abbrev pub sizeOk : ℕ → Bool
-sizeOk size = eqb (size % sheetSize) 0 && leb 1 (size / sheetSize) && leb (size / sheetSize) mostRouters
+abbrev pub yardSizeOk : ℕ → Bool
+yardSizeOk = wholeParts sheetSize mostRouters
 
 -- and each of them valid
 unfoldable pub yardOk : List ℕ → Bool
-yardOk yard = sizeOk (length yard) && every (validAt yard) (routersIn yard)
+yardOk yard = yardSizeOk (length yard) && every (validAt yard) (routersIn yard)
 
 -- router i holds an address at the interface that was found, or else whoever of those after it does
-abbrev pub heldBy : ℕ → Found → Holder → Holder
+abbrev pub heldBy : ℕ → Holding → Holder → Holder
 heldBy i (At k) later = Held i k
-heldBy i Nothing later = later
+heldBy i Nowhere later = later
 
 -- the lowest of n routers, from router i on, that holds an address, and its lowest interface
 unfoldable pub lowestFrom : List ℕ → ℕ → ℕ → ℕ → Holder

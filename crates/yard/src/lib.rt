@@ -1,18 +1,36 @@
 // A trace walked from router to router: each is a call of the engine, and the walk calls itself for the next.
-use sheet::Found;
+use sheet::Holding;
 ghost use mathlib.Core.Path.{_≡_};
 ghost use Prim.Native.Nat.{_+_, _*_, _/_, _≤_, _<_};
 ghost use lib.Dec.{eqb};
 ghost use lib.ListN.{length};
 ghost use Rattle.wire.specs.Numbers.{byteAt};
 ghost use Rattle.sheet.specs.Every.{every};
-ghost use Rattle.sheet.specs.Sheet.{layoutOf};
-ghost use Rattle.sheet.specs.Tables.{holderOf};
+ghost use Rattle.message.specs.Format.{most, request};
 ghost use Rattle.message.specs.Blocks.{standardCount};
 ghost use Rattle.drops.specs.Arrival.{arrival};
-ghost use Rattle.yard.specs.Yard.{routersIn, validAt, sizeOk, holderIn};
-ghost use Rattle.yard.specs.Walk.{visit, sentFor, sentAt, walkFrom, Tells, WalkMeets};
-ghost use Rattle.yard.specs.Ready.{Counted, Checked, Ready, Called, Hopped, Ended};
+ghost use Rattle.yard.specs.Yard.{sheetSize, mostRouters, routersIn, validAt, yardSizeOk, holderIn};
+ghost use Rattle.yard.specs.Walk.{visit, sentFor, sentAt, refusedWalk, walkedOf, walkFrom, Tells, WalkTells};
+ghost use Rattle.yard.specs.Inside.{Counted, YardChecked, CanEnter, Called, Hopped, Ended};
+
+// Bytes of a router's sheet in a yard, and the most routers.
+const SHEET_SIZE: usize = 1024;
+
+const MOST_ROUTERS: usize = 32;
+
+// The ends of a walk besides the engine's: sent to a group, and nobody holds the address.
+const TO_GROUP: u32 = 102;
+
+const NOBODY_THERE: u32 = 103;
+
+// The refusals besides room: the yard, the times, the start router, a message of type 2.
+const WALK_YARD: u32 = 21;
+
+const WALK_TIMES: u32 = 22;
+
+const WALK_START: u32 = 23;
+
+const WALK_REQUEST: u32 = 24;
 
 // What a walk answers: its end, its steps (calls of the engine), and the type 4 blocks and the length of the last message sent.
 pub struct Walked {
@@ -45,21 +63,21 @@ struct Hop {
 }
 
 fn size_ok(size: usize) -> bool
-    ensures { λ r. ⌜ r ≡ sizeOk size ⌝ }
+    ensures { λ r. ⌜ r ≡ yardSizeOk size ⌝ }
 {
-    (size % 1024 == 0) & (1 <= size / 1024) & (size / 1024 <= 32)
+    (size % SHEET_SIZE == 0) & (1 <= size / SHEET_SIZE) & (size / SHEET_SIZE <= MOST_ROUTERS)
 }
 
 // Every sheet of a yard of n is checked, and its interfaces are counted.
 fn sheets_ok(yard: &[u8], n: usize, counts: &mut [usize]) -> bool
-    requires { ⌜ (n ≤ 32) × (1024 * n ≤ length (now yard)) × (n ≤ length (now counts)) ⌝ }
+    requires { ⌜ (n ≤ mostRouters) × (sheetSize * n ≤ length (now yard)) × (n ≤ length (now counts)) ⌝ }
     ensures { λ r. ⌜ (r ≡ every (validAt (now (yard .entry))) n) × Counted (now (yard .entry)) (now (counts .exit)) n ⌝ }
 {
     let mut ok = true;
     let mut i: usize = 0;
     while i < n {
-        let a = 1024 * i;
-        let e = a + 1024;
+        let a = SHEET_SIZE * i;
+        let e = a + SHEET_SIZE;
         let layout = sheet::check(&yard[a..e]);
         ok = ok & layout.valid;
         counts[i] = layout.interfaces;
@@ -69,43 +87,27 @@ fn sheets_ok(yard: &[u8], n: usize, counts: &mut [usize]) -> bool
 }
 
 fn yard_ok(yard: &[u8], counts: &mut [usize]) -> bool
-    requires { ⌜ 32 ≤ length (now counts) ⌝ }
-    ensures { λ r. ⌜ Checked (now (yard .entry)) r (now (counts .exit)) ⌝ }
+    requires { ⌜ mostRouters ≤ length (now counts) ⌝ }
+    ensures { λ r. ⌜ YardChecked (now (yard .entry)) r (now (counts .exit)) ⌝ }
 {
     if !size_ok(yard.len()) {
         return false;
     }
-    sheets_ok(yard, yard.len() / 1024, counts)
-}
-
-// The lowest of so many interfaces of a sheet that holds an address.
-fn held_in(sheet: &[u8], interfaces: usize, address: u32) -> Found
-    requires { ⌜ interfaces ≡ layoutOf (now sheet) .interfaces ⌝ }
-    ensures { λ r. ⌜ r ≡ holderOf (now (sheet .entry)) address ⌝ }
-{
-    let mut k: usize = 0;
-    while k < interfaces {
-        let interface = sheet::interface(sheet, k);
-        if interface.address == address {
-            return Found::At(k);
-        }
-        k += 1;
-    }
-    Found::Nothing
+    sheets_ok(yard, yard.len() / SHEET_SIZE, counts)
 }
 
 // The lowest router of n, and its lowest interface, that hold an address.
 fn holder_in(yard: &[u8], counts: &[usize], n: usize, address: u32) -> Holder
-    requires { ⌜ (n ≡ routersIn (now yard)) × (n ≤ 32) × (1024 * n ≤ length (now yard)) ⌝ }
+    requires { ⌜ (n ≡ routersIn (now yard)) × (n ≤ mostRouters) × (sheetSize * n ≤ length (now yard)) ⌝ }
     requires { ⌜ Counted (now yard) (now counts) n ⌝ }
     ensures { λ r. ⌜ r ≡ holderIn (now (yard .entry)) address ⌝ }
 {
     let mut i: usize = 0;
     while i < n {
-        let a = 1024 * i;
-        let e = a + 1024;
-        let found = held_in(&yard[a..e], counts[i], address);
-        if let Found::At(k) = found {
+        let a = SHEET_SIZE * i;
+        let e = a + SHEET_SIZE;
+        let found = sheet::holder(&yard[a..e], counts[i], address);
+        if let Holding::At(k) = found {
             return Holder::Held(i, k);
         }
         i += 1;
@@ -123,11 +125,11 @@ fn ask(
     ttl: u32,
     sent: &mut [u8],
 ) -> Call
-    requires { ⌜ length (now sent) ≡ 1472 ⌝ }
+    requires { ⌜ length (now sent) ≡ most ⌝ }
     ensures { λ r. ⌜ Called (sentFor (now (sheet .entry)) time (arrival (now (message .entry)) destination receiving ttl)) (now (sent .entry)) r (now (sent .exit)) ⌝ }
 {
-    let mut recent = [0u8; 196];
-    let mut note = [0u8; 16];
+    let mut recent = [0u8; recent::LIST_SIZE];
+    let mut note = [0u8; message::NOTE_SIZE];
     let answer = engine::step(
         message,
         destination,
@@ -171,14 +173,14 @@ fn enter(
     ttl: u32,
     sent: &mut [u8],
 ) -> Hop
-    requires { ⌜ Ready (now yard) (now counts) (now times) router ⌝ }
-    requires { ⌜ length (now sent) ≡ 1472 ⌝ }
+    requires { ⌜ CanEnter (now yard) (now counts) (now times) router ⌝ }
+    requires { ⌜ length (now sent) ≡ most ⌝ }
     ensures { λ r. ⌜ Hopped (now (yard .entry))
         (sentAt (now (yard .entry)) (now (times .entry)) (visit router (arrival (now (message .entry)) destination receiving ttl)))
         (now (sent .entry)) r (now (sent .exit)) ⌝ }
 {
-    let a = 1024 * router;
-    let e = a + 1024;
+    let a = SHEET_SIZE * router;
+    let e = a + SHEET_SIZE;
     let c = ask(
         &yard[a..e],
         times[router],
@@ -189,31 +191,31 @@ fn enter(
         sent,
     );
     let to = c.to;
-    if c.answer != 100 {
+    if c.answer != engine::SENT_ON {
         return ended(c.answer, c);
     }
     if wire::multicast(to) {
-        return ended(102, c);
+        return ended(TO_GROUP, c);
     }
-    let holder = holder_in(yard, counts, yard.len() / 1024, to);
+    let holder = holder_in(yard, counts, yard.len() / SHEET_SIZE, to);
     match holder {
         Holder::Held(i, k) => Hop {
-            end: 100,
+            end: engine::SENT_ON,
             length: c.length,
             to,
             router: i,
             interface: k as u32,
         },
-        Holder::Nobody => ended(103, c),
+        Holder::Nobody => ended(NOBODY_THERE, c),
     }
 }
 
 // The type 4 blocks of a message that was sent, or of none.
 fn count(sent: &[u8]) -> u32
-    requires { ⌜ length (now sent) ≤ 1472 ⌝ }
+    requires { ⌜ length (now sent) ≤ most ⌝ }
     ensures { λ r. ⌜ r ≡ standardCount (now (sent .entry)) ⌝ }
 {
-    if sent.len() < 20 {
+    if sent.len() < message::HEADER_SIZE {
         return 0;
     }
     let blocks = message::blocks_of(sent);
@@ -222,7 +224,7 @@ fn count(sent: &[u8]) -> u32
 
 // The walk ends: the last message sent goes to the output.
 fn finish(end: u32, sent: &[u8], output: &mut [u8]) -> Walked
-    requires { ⌜ (length (now sent) ≤ 1472) × (1472 ≤ length (now output)) ⌝ }
+    requires { ⌜ (length (now sent) ≤ most) × (most ≤ length (now output)) ⌝ }
     ensures { λ r. ⌜ Ended end (now (sent .entry)) (now (output .entry)) r (now (output .exit)) ⌝ }
 {
     wire::copy_to(output, 0, sent);
@@ -246,13 +248,13 @@ fn go(
     ttl: u32,
     output: &mut [u8],
 ) -> Walked
-    requires { ⌜ Ready (now yard) (now counts) (now times) router ⌝ }
-    requires { ⌜ 1472 ≤ length (now output) ⌝ }
+    requires { ⌜ CanEnter (now yard) (now counts) (now times) router ⌝ }
+    requires { ⌜ most ≤ length (now output) ⌝ }
     ensures { λ r. ⌜ Tells
         (walkFrom (now (yard .entry)) (now (times .entry)) (visit router (arrival (now (message .entry)) destination receiving ttl)))
         (now (output .entry)) r (now (output .exit)) ⌝ }
 {
-    let mut sent = [0u8; 1472];
+    let mut sent = [0u8; message::MOST];
     let h = enter(
         yard,
         counts,
@@ -264,19 +266,19 @@ fn go(
         ttl,
         &mut sent,
     );
-    let length = h.length;
-    if h.end != 100 {
-        return finish(h.end, &sent[..length], output);
+    let size = h.length;
+    if h.end != engine::SENT_ON {
+        return finish(h.end, &sent[..size], output);
     }
     let w = go(
         yard,
         counts,
         times,
         h.router,
-        &sent[..length],
+        &sent[..size],
         h.to,
         h.interface,
-        255,
+        drops::NEAR_TTL,
         output,
     );
     let steps = w.steps + 1;
@@ -288,21 +290,22 @@ fn go(
     }
 }
 
-// Whether a message has a first byte, and it is 2.
+// Whether a message has a first byte, and it is that of a Request.
 fn is_request(message: &[u8]) -> bool
-    ensures { λ r. ⌜ r ≡ eqb (byteAt (now (message .entry)) 0) 2 ⌝ }
+    ensures { λ r. ⌜ r ≡ eqb (byteAt (now (message .entry)) 0) request ⌝ }
 {
     if message.len() == 0 {
         return false;
     }
-    message[0] == 2
+    message[0] == message::REQUEST
 }
 
-fn refuse(end: u32) -> Walked
-    ensures { λ r. ⌜ r ≡ record { end = end; steps = 0; blocks = 0; length = 0 } ⌝ }
+// Nobody is entered, and nothing is sent.
+fn refuse(number: u32) -> Walked
+    ensures { λ r. ⌜ r ≡ walkedOf (refusedWalk number) ⌝ }
 {
     Walked {
-        end,
+        end: number,
         steps: 0,
         blocks: 0,
         length: 0,
@@ -321,26 +324,26 @@ pub fn walk(
     ttl: u32,
     output: &mut [u8],
 ) -> Walked
-    ensures { λ r. ⌜ WalkMeets (now (yard .entry)) (now (times .entry)) (visit start (arrival (now (message .entry)) destination receiving ttl))
+    ensures { λ r. ⌜ WalkTells (now (yard .entry)) (now (times .entry)) (visit start (arrival (now (message .entry)) destination receiving ttl))
         (now (output .entry)) r (now (output .exit)) ⌝ }
 {
-    let routers = yard.len() / 1024;
+    let routers = yard.len() / SHEET_SIZE;
     let router = start as usize;
-    if output.len() < 1472 {
-        return refuse(1);
+    if output.len() < message::MOST {
+        return refuse(drops::DROP_ROOM);
     }
-    let mut counts = [0usize; 32];
+    let mut counts = [0usize; MOST_ROUTERS];
     if !yard_ok(yard, &mut counts) {
-        return refuse(21);
+        return refuse(WALK_YARD);
     }
     if times.len() < routers {
-        return refuse(22);
+        return refuse(WALK_TIMES);
     }
     if routers <= router {
-        return refuse(23);
+        return refuse(WALK_START);
     }
     if is_request(message) {
-        return refuse(24);
+        return refuse(WALK_REQUEST);
     }
     go(
         yard,

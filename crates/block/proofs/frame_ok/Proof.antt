@@ -1,6 +1,7 @@
 -- `frame_ok`: the entries in use end at a word; the plain sums on both sides of it say what the definition asks.
 use borrow.Author.Needs.{needs}
-use Rattle.block.proofs.Frames.{room, over-full, framed}
+use Rattle.block.proofs.Laws.{entries-fit}
+use Rattle.block.proofs.Frames.{over-full, framed}
 use Rattle.block.proofs.frame_ok.Statement.{statement}
 use Rattle.block.proofs.frame_ok.Tie as tie
 
@@ -8,7 +9,7 @@ returns : tie.Need-returns
 returns c = search over-full
 
 end-of-requires : tie.Need-end-of-requires
-end-of-requires c κs = search room
+end-of-requires c κs = search entries-fit
 
 returns-2 : tie.Need-returns-2
 returns-2 c =

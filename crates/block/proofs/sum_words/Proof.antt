@@ -2,13 +2,13 @@
 use Prim.Native.Nat.{_+_, _*_, _-_, _≤_}
 use mathlib.Core.Path.{_≡_}
 use native.Mathlib.Omega.{arith}
-use Rattle.block.specs.Words.{words}
+use Rattle.block.specs.Inside.{mostWord, words}
 use Rattle.block.proofs.Sums.{words-more, words-all}
 use Rattle.block.proofs.sum_words.Statement.{statement}
 use Rattle.block.proofs.sum_words.Tie as tie
 
 abbrev Inv-loop : tie.InvT-loop
-Inv-loop b from to sum₀ i₀ sum i = (i ≤ to) × (sum ≤ 4294967295 * i) × (sum + words b from ≡ words b i)
+Inv-loop b from to sum₀ i₀ sum i = (i ≤ to) × (sum ≤ mostWord * i) × (sum + words b from ≡ words b i)
 
 abbrev μ-loop : tie.MeasureT-loop
 μ-loop b from to sum₀ i₀ sum i = to - i

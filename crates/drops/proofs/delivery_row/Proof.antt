@@ -1,39 +1,22 @@
 -- `delivery_row`: each way out is the first row that applies.
-use Rattle.rows.proofs.Tests.{first}
-use Rattle.drops.specs.Drop.{deliveryRow}
+use Rattle.rows.specs.Rows.{byFirst}
+use Rattle.rows.proofs.Laws.{first}
+use Rattle.drops.specs.Drop.{deliveryRows}
+use Rattle.drops.proofs.Rows.{interfaces-told}
 use borrow.Author.Needs.{needs}
 use Rattle.drops.proofs.delivery_row.Statement.{statement}
 use Rattle.drops.proofs.delivery_row.Tie as tie
 
-returns : tie.Need-returns
-unfolding deliveryRow
-returns c = search first depth 30 fits 4000
-
-returns-2 : tie.Need-returns-2
-unfolding deliveryRow
-returns-2 c = search first depth 30 fits 4000
-
-returns-3 : tie.Need-returns-3
-unfolding deliveryRow
-returns-3 c = search first depth 30 fits 4000
-
-returns-4 : tie.Need-returns-4
-unfolding deliveryRow
-returns-4 c = search first depth 30 fits 4000
-
-returns-5 : tie.Need-returns-5
-unfolding deliveryRow
-returns-5 c = search first depth 30 fits 4000
-
 pub delivery-row-spec : {M : Type 1} → statement M
+unfolding deliveryRows byFirst
 delivery-row-spec =
     tie.close
     (tie.spec
-    (λ c κs. search needs)
-    returns
-    returns-2
+    (λ c κs. search interfaces-told)
+    (λ c. search first depth 30 fits 4000)
+    (λ c. search first depth 30 fits 4000)
     (λ c. search needs)
-    returns-3
+    (λ c. search first depth 30 fits 4000)
     (λ c κs. search needs)
-    returns-4
-    returns-5)
+    (λ c. search first depth 30 fits 4000)
+    (λ c. search first depth 30 fits 4000))

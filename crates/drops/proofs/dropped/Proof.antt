@@ -1,10 +1,10 @@
 -- `dropped`: the definition's record.
-use Rattle.drops.specs.Verdict.{dropped}
+use Rattle.drops.specs.Inside.{dropVerdict}
 use Rattle.drops.proofs.dropped.Statement.{statement}
 use Rattle.drops.proofs.dropped.Tie as tie
 
 returns : tie.Need-returns
-unfolding dropped
+unfolding dropVerdict
 returns c = search
 
 pub dropped-spec : {M : Type 1} → statement M

@@ -14,4 +14,4 @@ returns-3 : tie.Need-returns-3
 returns-3 c = search row-none
 
 pub route-row-spec : {M : Type 1} → statement M
-route-row-spec = tie.close (tie.spec (λ c κs. search needs) returns (λ c. search needs) returns-2 returns-3)
+route-row-spec = tie.close (tie.spec (λ c κs. search needs) returns returns-2 returns-3)

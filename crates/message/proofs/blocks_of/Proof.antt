@@ -6,7 +6,7 @@ use native.Mathlib.Omega.{arith}
 use borrow.Author.Needs.{needs}
 use lib.ListN.{length, drop}
 use Rattle.message.specs.Blocks.{blocksFrom}
-use Rattle.message.specs.Check.{blocksSeen}
+use Rattle.message.specs.Inside.{blocksSeen}
 use Rattle.message.proofs.Turns.{joined, at-first, stopped-short, stopped-broken, one-on, count-inside, size-least, size-inside}
 use Rattle.message.proofs.blocks_of.Statement.{statement}
 use Rattle.message.proofs.blocks_of.Tie as tie

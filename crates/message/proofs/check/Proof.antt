@@ -2,7 +2,7 @@
 use Rattle.message.proofs.Rows.{row-short, row-long, row-header, row-blocks, row-none}
 use mathlib.Core.Path.{ap}
 use Rattle.message.specs.declared.Blocks.{Blocks}
-use Rattle.message.specs.Check.{blocksSeen}
+use Rattle.message.specs.Inside.{blocksSeen}
 use borrow.Author.Needs.{needs}
 use Rattle.message.proofs.check.Statement.{statement}
 use Rattle.message.proofs.check.Tie as tie

@@ -1,21 +1,23 @@
 -- `header_number`: each row is handed what the rows after it give, and the nested rows are the chain of the definition.
-use Rattle.message.specs.Check.{firstRow}
+use Rattle.rows.specs.Rows.{byFirst}
+use Rattle.message.specs.Check.{headerRows}
 use borrow.Author.Needs.{needs}
 use Rattle.message.proofs.header_number.Statement.{statement}
 use Rattle.message.proofs.header_number.Tie as tie
 
 returns : tie.Need-returns
-unfolding firstRow
+unfolding headerRows byFirst
 returns c =
-    let hops = c .before .before .before .before in
-    let group = hops .before .before .before in
+    let size = c .before .before .before in
+    let hops = size .before .before in
+    let group = hops .before .before in
     let source = group .before .before in
     let pair = source .before .before in
     let client = pair .before in
     let start = client .before .before in
     rw (
       c .row7 .ensures,
-      c .before .before .before .row6 .ensures,
+      size .row6 .ensures,
       hops .row5 .ensures,
       group .row4 .ensures,
       group .before .multicast .ensures,

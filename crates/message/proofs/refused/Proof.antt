@@ -1,11 +1,11 @@
 -- `refused`: zeros but for the number.
 use mathlib.Core.Path.{refl}
-use Rattle.message.specs.Check.{refused}
+use Rattle.message.specs.Inside.{refusedMessage}
 use Rattle.message.proofs.refused.Statement.{statement}
 use Rattle.message.proofs.refused.Tie as tie
 
 returns : tie.Need-returns
-unfolding refused
+unfolding refusedMessage
 returns c = refl
 
 pub refused-spec : {M : Type 1} → statement M

@@ -12,7 +12,7 @@ returns c = simp (ne-eqb _ _ (c .if1 .taken))
 returns-2 : tie.Need-returns-2
 unfolding wellFormed
 returns-2 c =
-    rw (eq-eqb _ _ (c .before .before .before .before .before .before .if1 .left), c .zero-from .ensures, c .before .entry-place .ensures .0)
+    rw (eq-eqb _ _ (c .before .before .before .before .before .before .if1 .left), c .zero-from .ensures, c .before .recent-place .ensures .0)
 
 pub check-spec : {M : Type 1} → statement M
 check-spec =

@@ -3,7 +3,7 @@ use Prim.Native.Nat.{_-_}
 use mathlib.Core.Path.{_≡_, refl}
 use native.Mathlib.Omega.{arith}
 use lib.ListN.{length, drop}
-use Rattle.recent.specs.Layout.{allZero}
+use Rattle.wire.specs.Parts.{allZero}
 use Rattle.recent.proofs.Turns.{zero-on, zero-broken, zero-ended}
 use Rattle.recent.proofs.zero_from.Statement.{statement}
 use Rattle.recent.proofs.zero_from.Tie as tie

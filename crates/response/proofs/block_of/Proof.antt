@@ -9,4 +9,4 @@ unfolding blockOf
 returns c = cc
 
 pub block-of-spec : {M : Type 1} → statement M
-block-of-spec = tie.close (tie.spec (λ c κs. search needs) (λ c κs. search needs) (λ c κs. search needs) returns)
+block-of-spec = tie.close (tie.spec (λ c κs. search needs) (λ c κs. search needs) returns)

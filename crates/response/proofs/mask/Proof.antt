@@ -1,5 +1,5 @@
 -- `mask`: each way out is the one that its test picks.
-use Rattle.rows.proofs.Tests.{first}
+use Rattle.rows.proofs.Laws.{first}
 use Rattle.response.proofs.mask.Statement.{statement}
 use Rattle.response.proofs.mask.Tie as tie
 

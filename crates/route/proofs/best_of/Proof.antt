@@ -4,7 +4,7 @@ use mathlib.Core.Path.{_≡_, refl}
 use borrow.Author.Needs.{needs}
 use native.Mathlib.Omega.{arith}
 use Rattle.route.proofs.Turns.{route-short, best-more, best-all}
-use Rattle.route.specs.Rank.{ranksIn, bestOf}
+use Rattle.route.specs.Inside.{ranksIn, bestOf}
 use Rattle.route.proofs.best_of.Statement.{statement}
 use Rattle.route.proofs.best_of.Tie as tie
 

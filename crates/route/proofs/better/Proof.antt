@@ -1,6 +1,6 @@
 -- `better`: the test picks, as in the definition.
-use Rattle.rows.proofs.Tests.{first}
-use Rattle.route.specs.Rank.{better}
+use Rattle.rows.proofs.Laws.{first}
+use Rattle.route.specs.Inside.{better}
 use Rattle.route.proofs.better.Statement.{statement}
 use Rattle.route.proofs.better.Tie as tie
 

@@ -15,4 +15,4 @@ returns-3 c = search hop-none
 
 pub last-hop-spec : {M : Type 1} → statement M
 last-hop-spec =
-    tie.close (tie.spec (λ c. search needs) returns (λ c κs. search needs) (λ c. search needs) returns-2 returns-3)
+    tie.close (tie.spec (λ c. search needs) (λ c κs. search needs) returns (λ c κs. search needs) (λ c. search needs) returns-2 returns-3)

@@ -1,6 +1,6 @@
 -- `rank`: each way out is the first test that holds.
-use Rattle.rows.proofs.Tests.{first}
-use Rattle.route.specs.Rank.{rankBy}
+use Rattle.rows.proofs.Laws.{first}
+use Rattle.route.specs.Inside.{rankBy}
 use borrow.Author.Needs.{needs}
 use Rattle.route.proofs.rank.Statement.{statement}
 use Rattle.route.proofs.rank.Tie as tie

@@ -4,7 +4,7 @@ use mathlib.Core.Path.{_≡_}
 use Rattle.sheet.specs.Sheet.{layoutOf}
 use Rattle.sheet.specs.Tables.{interfaceOf}
 use native.Mathlib.Omega.{arith}
-use Rattle.route.proofs.Turns.{whole, interface-below, interface-short, reaches-start, reached, not-reached, none-reached}
+use Rattle.route.proofs.Turns.{whole, interface-below, below-short, reaches-start, reached, not-reached, none-reached}
 use Rattle.route.specs.LastHop.{someReaches}
 use Rattle.route.proofs.some_reaches.Statement.{statement}
 use Rattle.route.proofs.some_reaches.Tie as tie
@@ -19,7 +19,7 @@ loop-holds : tie.Need-loop-holds Inv-loop μ-loop
 loop-holds c = (search whole, search reaches-start)
 
 reaches-requires : tie.Need-reaches-requires Inv-loop μ-loop
-reaches-requires c κs = (search interface-below, search interface-short)
+reaches-requires c κs = (search interface-below, search below-short)
 
 returns : tie.Need-returns Inv-loop μ-loop
 returns c = search reached

@@ -4,7 +4,7 @@ use mathlib.Core.Path.{_≡_, refl}
 use native.Mathlib.Omega.{arith}
 use lib.ListN.{length, length-set}
 use lib.Seq.{paste, paste-zero}
-use Rattle.wire.proofs.Laws.{copied-more, copied-all}
+use Rattle.wire.proofs.Writes.{copied-more, copied-all}
 use Rattle.wire.proofs.copy_to.Statement.{statement}
 use Rattle.wire.proofs.copy_to.Tie as tie
 

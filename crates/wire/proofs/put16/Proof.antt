@@ -1,7 +1,7 @@
 -- `put16`: two stores side by side are the number written (`pair-stored`).
 use native.Mathlib.Omega.{arith}
 use lib.ListN.{length-set}
-use Rattle.wire.proofs.Laws.{pair-stored}
+use Rattle.wire.proofs.Writes.{pair-stored}
 use borrow.Author.Needs.{needs}
 use Rattle.wire.proofs.put16.Statement.{statement}
 use Rattle.wire.proofs.put16.Tie as tie

@@ -1,5 +1,5 @@
 -- `put32`: two halves side by side are the number written (`halves-written`).
-use Rattle.wire.proofs.Laws.{halves-written}
+use Rattle.wire.proofs.Writes.{halves-written}
 use borrow.Author.Needs.{needs}
 use Rattle.wire.proofs.put32.Statement.{statement}
 use Rattle.wire.proofs.put32.Tie as tie

@@ -1,5 +1,5 @@
 -- `put64`: two halves side by side are the number written (`halves-written`).
-use Rattle.wire.proofs.Laws.{halves-written}
+use Rattle.wire.proofs.Writes.{halves-written}
 use borrow.Author.Needs.{needs}
 use Rattle.wire.proofs.put64.Statement.{statement}
 use Rattle.wire.proofs.put64.Tie as tie

@@ -1,8 +1,8 @@
 -- `go`: the walk calls itself for the next router. The measure is the hops not yet used, hops minus blocks of the message received:
 -- what is sent on has one block more.
 use borrow.Author.Needs.{needs}
-use Rattle.yard.specs.Walk.{unused}
-use Rattle.yard.proofs.Rows.{message-within, message-measured, message-short, walk-over, unused-falls, ready-next, walk-goes-on, steps-fit}
+use Rattle.message.specs.Room.{hopsLeft}
+use Rattle.yard.proofs.Rows.{message-within, message-measured, message-short, walk-over, hops-fall, ready-next, walk-goes-on, steps-fit}
 use Prim.Native.Nat.{ℕ, _<_}
 use borrow.Fn.Kinds.{In}
 use borrow.Fn.PlainCycle.{Measures, is, falls, and}
@@ -15,7 +15,7 @@ use Rattle.yard.proofs.+go.{statement}
 use Rattle.yard.proofs.+go.Tie.{close}
 
 abbrev μ-go : Measures 5 go-kinds.ps ℕ
-μ-go κs a = unused (a .1 .1 .1 .1 .0 .now)
+μ-go κs a = hopsLeft (a .1 .1 .1 .1 .0 .now)
 
 abbrev go-at : ℕ → In 5 go-kinds.ps
 go-at t = and 5 go-kinds.ps (is 5 go-kinds.ps μ-go t) go.Pre
@@ -46,7 +46,7 @@ go-slice-aggregate-go : (t : ℕ) → go-lts.Need-slice-aggregate-go (calls t) (
 go-slice-aggregate-go t c = search message-measured
 
 go-go-requires : (t : ℕ) → go-lts.Need-go-requires (calls t) (go-at t) go.Post
-go-go-requires t c κs = (search unused-falls, (search ready-next, search needs))
+go-go-requires t c κs = (search hops-fall, (search ready-next, search needs))
 
 go-add-steps : (t : ℕ) → go-lts.Need-add-steps (calls t) (go-at t) go.Post
 go-add-steps t c = record { fits = search steps-fit }

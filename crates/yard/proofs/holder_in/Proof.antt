@@ -17,8 +17,8 @@ abbrev μ-loop : tie.MeasureT-loop
 loop-holds : tie.Need-loop-holds Inv-loop μ-loop
 loop-holds c = (omega arith, search search-start)
 
-held-in-requires : tie.Need-held-in-requires Inv-loop μ-loop
-held-in-requires c κs = search count-told
+holder-requires : tie.Need-holder-requires Inv-loop μ-loop
+holder-requires c κs = search count-told
 
 returns : tie.Need-returns Inv-loop μ-loop
 returns c = search search-found
@@ -43,7 +43,7 @@ holder-in-spec =
     (λ c. omega arith)
     (λ c. omega arith)
     (λ c. omega arith)
-    held-in-requires
+    holder-requires
     (λ c. search needs)
     returns
     (λ c. search needs)

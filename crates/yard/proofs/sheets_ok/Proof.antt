@@ -6,7 +6,7 @@ use native.Mathlib.Omega.{arith}
 use lib.ListN.{length, length-set}
 use Rattle.sheet.specs.Every.{every}
 use Rattle.yard.specs.Yard.{validAt}
-use Rattle.yard.specs.Ready.{Counted}
+use Rattle.yard.specs.Inside.{Counted}
 use Rattle.yard.proofs.Sheets.{counted-none, checked-more, counted-more, checked-all, counted-all}
 use Rattle.yard.proofs.sheets_ok.Statement.{statement}
 use Rattle.yard.proofs.sheets_ok.Tie as tie

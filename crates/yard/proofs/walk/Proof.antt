@@ -1,24 +1,32 @@
--- `walk`: a law for each refusal, in their order, and one for the walk itself.
+-- `walk`: the tests are the rows' in their order, so that each refusal is that of the first row that applies.
 use borrow.Author.Needs.{needs}
 use native.Mathlib.Omega.{arith}
-use Rattle.yard.proofs.Refusals.{output-short, yard-wrong, times-few, router-absent, type-2, walk-ready, walk-told}
+use Rattle.rows.specs.Rows.{byFirst}
+use Rattle.rows.proofs.Laws.{first}
+use Rattle.yard.specs.Walk.{walkRows, walkOf}
+use Rattle.yard.proofs.Refusals.{refused-by, walk-ready, walk-told}
 use Rattle.yard.proofs.walk.Statement.{statement}
 use Rattle.yard.proofs.walk.Tie as tie
 
 returns : tie.Need-returns
-returns c = search output-short
+unfolding walkOf walkRows byFirst
+returns c = search (refused-by, first) depth 30 fits 4000
 
 returns-2 : tie.Need-returns-2
-returns-2 c = search yard-wrong
+unfolding walkOf walkRows byFirst
+returns-2 c = search (refused-by, first) depth 30 fits 4000
 
 returns-3 : tie.Need-returns-3
-returns-3 c = search times-few
+unfolding walkOf walkRows byFirst
+returns-3 c = search (refused-by, first) depth 30 fits 4000
 
 returns-4 : tie.Need-returns-4
-returns-4 c = search router-absent
+unfolding walkOf walkRows byFirst
+returns-4 c = search (refused-by, first) depth 30 fits 4000
 
 returns-5 : tie.Need-returns-5
-returns-5 c = search type-2
+unfolding walkOf walkRows byFirst
+returns-5 c = search (refused-by, first) depth 30 fits 4000
 
 go-requires : tie.Need-go-requires
 go-requires c κs =
@@ -27,7 +35,8 @@ go-requires c κs =
     (walk-ready _ _ _ _ (checked .yard-ok .result) (checked .yard-ok .ensures) (passed .before .before .if2 .left) (passed .before .if3 .left) (passed .if4 .left), omega arith)
 
 returns-6 : tie.Need-returns-6
-returns-6 c = search walk-told
+unfolding walkOf walkRows byFirst
+returns-6 c = search (walk-told, first) depth 30 fits 4000
 
 pub walk-spec : {M : Type 1} → statement M
 walk-spec =

@@ -1,25 +1,23 @@
--- `advance`: each way out is the one that the tests on the way pick in the definition.
-use Rattle.clock.specs.Clock.{advanceOf}
-use Rattle.clock.proofs.Tests.{tests}
+-- `advance`: each way out is the one that the first row that applies picks in the definition.
+use mathlib.Core.Logic.{⊎-elim}
+use Rattle.rows.specs.Rows.{byFirst}
+use Rattle.rows.proofs.Laws.{first}
 use borrow.Author.Needs.{needs}
+use Rattle.clock.specs.Clock.{advanceOf}
 use Rattle.clock.proofs.Clock.advance.Statement.{statement}
 use Rattle.clock.proofs.Clock.advance.Tie as tie
 
 returns : tie.Need-returns
-unfolding advanceOf
-returns c = search tests
+unfolding advanceOf byFirst
+returns c = ⊎-elim (λ low. search first) (λ high. search first) (c .if1 .came)
 
 returns-2 : tie.Need-returns-2
-unfolding advanceOf
-returns-2 c = search tests
+unfolding advanceOf byFirst
+returns-2 c = search first
 
 returns-3 : tie.Need-returns-3
-unfolding advanceOf
-returns-3 c = search tests
-
-returns-4 : tie.Need-returns-4
-unfolding advanceOf
-returns-4 c = search (tests, c .time-for .ensures)
+unfolding advanceOf byFirst
+returns-3 c = search (first, c .time-for .ensures)
 
 pub advance-spec : {M : Type 1} → statement M
-advance-spec = tie.close (tie.spec returns returns-2 returns-3 (λ c κs. search needs) returns-4)
+advance-spec = tie.close (tie.spec returns returns-2 (λ c κs. search needs) returns-3)

@@ -32,6 +32,7 @@ interface-blocks-spec =
     μ-loop
     loop-holds
     (λ c κs. omega arith)
+    (λ c. omega arith)
     (λ c κs. search needs)
     (λ c. omega arith)
     (λ c. omega arith)

@@ -1,32 +1,18 @@
 -- `interface_block_ok`: the rules of the definition, each by its own function; the frame comes first, since it bounds the entries.
 use borrow.Author.Needs.{needs}
-use borrow.Author.Tests.{not-true, not-false}
-use Rattle.sheet.specs.Rules.{blockOk}
-use Rattle.sheet.proofs.Counts.{used-fits}
+use Rattle.entry.specs.Interface.{interfaceSize}
+use Rattle.sheet.proofs.Counts.{used-fits, no-frame, by-frame}
 use Rattle.sheet.proofs.rules.interface_block_ok.Statement.{statement}
 use Rattle.sheet.proofs.rules.interface_block_ok.Tie as tie
 
 returns : tie.Need-returns
-unfolding blockOk
-returns c = rw (← c .before .frame-ok .ensures, not-true (c .before .frame-ok .result) (c .if1 .taken))
+returns c = search no-frame
 
 interfaces-ok-requires : tie.Need-interfaces-ok-requires
-interfaces-ok-requires c κs = search (used-fits 24, needs)
+interfaces-ok-requires c κs = search (used-fits interfaceSize, needs)
 
 returns-2 : tie.Need-returns-2
-unfolding blockOk
-returns-2 c =
-    let c0 = c .before in
-    let c1 = c0 .before .before in
-    let f = c1 .before .before .before .frame-ok in
-    rw (
-      ← f .ensures,
-      not-false (f .result) (c1 .before .before .if1 .left),
-      c1 .switches-ok .ensures,
-      c1 .before .be16 .ensures,
-      c .interfaces-ok .ensures,
-      c0 .wide .ensures .0,
-    )
+returns-2 c = search by-frame
 
 pub interface-block-ok-spec : {M : Type 1} → statement M
 interface-block-ok-spec =

@@ -1,0 +1,40 @@
+-- All that the worked examples and the wrong programs compute with, layer by layer: `unfolding opened`.
+use Prim.Native.Nat.{ℕ}
+use Rattle.wire.specs.Numbers.{be, bytes}
+use Rattle.wire.specs.Parts.{splice, allZero}
+use Rattle.rows.specs.Rows.{byFirst}
+use Rattle.clock.specs.Clock.{timeFor, startOf, advanceOf}
+use Rattle.clock.specs.Unix.{unixOf}
+use Rattle.clock.specs.Readings.{afterBy, issuesBy}
+use Rattle.block.specs.Sum.{carried, sumFrom, sumOk}
+use Rattle.block.specs.Block.{frameOk}
+use Rattle.entry.specs.Prefix.{hosts, samePrefix, zeroPast}
+use Rattle.entry.specs.Interface.{interfaceAt, interfaceOk}
+use Rattle.entry.specs.Route.{routeAt, routeOk}
+use Rattle.sheet.specs.Every.{every, listed}
+use Rattle.sheet.specs.Rules.{blockOk}
+use Rattle.sheet.specs.Sheet.{interfaceBlocksIn, interfaceBlocks, entriesIn, interfacesIn, routesIn, blockOkAt, validSheet, counted, layoutOf}
+use Rattle.sheet.specs.Tables.{interfaceOf, routeOf, interfacesOf, routesOf, prohibitedOf, holderFrom, holderOf}
+use Rattle.route.specs.Choice.{servesBoth, servesGroup, servesSource, longer, longestBy, orElse, whichRoute}
+use Rattle.route.specs.LastHop.{reaches, someReaches, properLastHop}
+use Rattle.response.specs.Code.{codes}
+use Rattle.response.specs.Fill.{filledOf, blockOf, endsTrace}
+use Rattle.response.specs.Bytes.{blockBytes, noteBytes}
+use Rattle.message.specs.Header.{headerOf}
+use Rattle.message.specs.Blocks.{fitsIn, begins, blocksBy, blocksFrom, blocksOf, totalSize, standardPlaces, lastOr, standards, blocksEnd, standardFirst, fillsMessage, rightForm, standardBlocks}
+use Rattle.message.specs.Check.{headerRows, messageRows}
+use Rattle.recent.specs.Layout.{wellFormed}
+use Rattle.recent.specs.Entries.{empty, firstEntries, someIsOf, seenIn, enteredIn}
+use Rattle.drops.specs.Arrival.{routeFor, lastHopFor}
+use Rattle.drops.specs.Drop.{lendingRows, deliveryRows, routeRows, table}
+use Rattle.engine.specs.View.{incomingFor, viewWith}
+use Rattle.engine.specs.Answer.{longerMessage, longerAnswer, sentBy}
+use Rattle.engine.specs.Step.{recentAfter, stepOf}
+use Rattle.yard.specs.Yard.{sheetAt, yardOk, lowestFrom, holderIn}
+use Rattle.yard.specs.Walk.{sentFor, endOf, walkBy, walkFrom, walkRows, walkOf}
+use Rattle.demands.specs.Walk.{blank}
+use Rattle.demands.specs.Example.{sheetBlockBytes, twoRouters, queryFor, traced}
+
+unfoldable pub opened : ℕ
+unfolding be bytes splice allZero byFirst timeFor startOf advanceOf unixOf afterBy issuesBy carried sumFrom sumOk frameOk hosts samePrefix zeroPast interfaceAt interfaceOk routeAt routeOk every listed blockOk interfaceBlocksIn interfaceBlocks entriesIn interfacesIn routesIn blockOkAt validSheet counted layoutOf interfaceOf routeOf interfacesOf routesOf prohibitedOf holderFrom holderOf servesBoth servesGroup servesSource longer longestBy orElse whichRoute reaches someReaches properLastHop codes filledOf blockOf endsTrace blockBytes noteBytes headerOf fitsIn begins blocksBy blocksFrom blocksOf totalSize standardPlaces lastOr standards blocksEnd standardFirst fillsMessage rightForm standardBlocks headerRows messageRows wellFormed empty firstEntries someIsOf seenIn enteredIn routeFor lastHopFor lendingRows deliveryRows routeRows table incomingFor viewWith longerMessage longerAnswer sentBy recentAfter stepOf sheetAt yardOk lowestFrom holderIn sentFor endOf walkBy walkFrom walkRows walkOf blank sheetBlockBytes twoRouters queryFor traced
+opened = 0

@@ -1,0 +1,126 @@
+-- The laws of the drop table that other crates cite: what is known of what no row applies to, and whatever is so is not dropped.
+use Prim.Native.Nat.{ℕ, _≤_, _<_}
+use mathlib.Core.Bool.{true, false, not, _&&_, _||_}
+use mathlib.Core.List.{List, _++_}
+use mathlib.Core.Logic.{⊎-elim}
+use mathlib.Core.Path.{_≡_, refl, sym, ap, _∙_}
+use native.Mathlib.Omega.{arith}
+use lib.Dec.{leb, ltb, eqb}
+use borrow.Author.Tests.{le-ltb, lt-leb, ne-eqb, ltb-true, ltb-false, leb-false, not-false}
+use Rattle.rows.specs.Rows.{Row, firstOf, NoneApplies, IsFirst}
+use Rattle.rows.proofs.Laws.{decided, neither-of, none-is, number-kept, some-first, zero-none, first-at-most, appliesAt, none-at, none-joined, none-split}
+use Rattle.wire.specs.Addresses.{linkScoped}
+use Rattle.recent.specs.Layout.{wellFormed}
+use Rattle.recent.specs.Entries.{seenIn}
+use Rattle.sheet.specs.Sheet.{layoutOf}
+use Rattle.sheet.specs.Tables.{holderOf}
+use Rattle.message.specs.Format.{most, noteSize}
+use Rattle.message.specs.Header.{headerOf}
+use Rattle.message.specs.Blocks.{standardCount}
+use Rattle.message.specs.Room.{isFull, hopsUsed}
+use Rattle.message.specs.Check.{headerRows, messageRows}
+use Rattle.message.specs.Inside.{blocksSeen}
+use Rattle.drops.specs.declared.Verdict.{Verdict}
+use Rattle.drops.specs.Inside.{dropVerdict, passVerdict, verdictOf}
+use Rattle.message.proofs.Laws.{Accepted, none-applies, applies-none, full-has-standard}
+use Rattle.drops.specs.Arrival.{Arrival, isQuery, isRequest, lastHopFor}
+use Rattle.drops.specs.Drop.{dropRoom, dropState, dropSheet, dropIface, dropDest, dropNear, dropCount, dropSeen, dropLastHop, lastDrop, nearTtl, isHeld, lendingRows, deliveryRows, routeRows, table, dropOf}
+
+module _ (a : Arrival) (sheet recent : List ℕ) (output note : ℕ) where
+  -- every number of the table is one of 1 to 19
+  zero-passes : dropOf a sheet recent output note ≡ 0 → NoneApplies (table a sheet recent output note)
+  unfolding table lendingRows messageRows headerRows deliveryRows routeRows
+  zero-passes = zero-none (table a sheet recent output note) refl
+
+  pub drop-numbers : dropOf a sheet recent output note ≤ lastDrop
+  unfolding table lendingRows messageRows headerRows deliveryRows routeRows
+  drop-numbers = first-at-most (table a sheet recent output note) lastDrop refl
+
+-- what no row of the drop table applies to
+pub record Taken (a : Arrival) (sheet recent : List ℕ) (output note : ℕ) : Type 0 where
+  pub output-room : most ≤ output
+  pub note-room : noteSize ≤ note
+  pub recent-formed : wellFormed recent ≡ true
+  pub sheet-valid : layoutOf sheet .valid ≡ true
+  pub receives : a .receiving < layoutOf sheet .interfaces
+  pub message : Accepted (a .message)
+  pub reaches : (isHeld (holderOf sheet (a .destination)) || linkScoped (a .destination)) ≡ true
+  pub near : (isRequest (headerOf (a .message)) && not (eqb (a .ttl) nearTtl)) ≡ false
+  pub few : (isRequest (headerOf (a .message)) && leb (headerOf (a .message) .hops) (hopsUsed (a .message))) ≡ false
+  pub unseen : (isQuery (headerOf (a .message)) && seenIn recent (headerOf (a .message) .client) (headerOf (a .message) .id)) ≡ false
+  pub last-hop : (isQuery (headerOf (a .message)) && linkScoped (a .destination) && not (lastHopFor sheet (headerOf (a .message)))) ≡ false
+
+module _ (a : Arrival) (sheet recent : List ℕ) (output note : ℕ) where
+  -- the rows before and behind those on the message by itself
+  abbrev before : List Row
+  before = lendingRows output note recent (layoutOf sheet) (a .receiving)
+
+  abbrev behind : List Row
+  behind =
+      let h = headerOf (a .message) in
+      deliveryRows sheet recent h (hopsUsed (a .message)) (a .destination) (a .ttl)
+      ++ routeRows (lastHopFor sheet h) h (standardCount (a .message)) (isFull (a .message)) (a .destination)
+
+  itself : NoneApplies (table a sheet recent output note) → NoneApplies (messageRows (a .message))
+  unfolding table
+  itself none = none-split (messageRows (a .message)) behind (none-split before (messageRows (a .message) ++ behind) none .1) .0
+
+  pub taken : NoneApplies (table a sheet recent output note) → Taken a sheet recent output note
+  unfolding table lendingRows messageRows headerRows deliveryRows routeRows
+  taken none =
+      let at : (n : ℕ) → appliesAt n (table a sheet recent output note) ≡ false = none-at (table a sheet recent output note) none in
+      let room = neither-of (ltb output most) _ (at dropRoom) in
+      record {
+        output-room = ltb-false _ _ (room .0);
+        note-room = ltb-false _ _ (room .1);
+        recent-formed = not-false (wellFormed recent) (at dropState);
+        sheet-valid = not-false (layoutOf sheet .valid) (at dropSheet);
+        receives = leb-false _ _ (at dropIface);
+        message = none-applies (a .message) (itself none);
+        reaches = not-false (isHeld (holderOf sheet (a .destination)) || linkScoped (a .destination)) (at dropDest);
+        near = at dropNear;
+        few = at dropCount;
+        unseen = at dropSeen;
+        last-hop = at dropLastHop;
+      }
+
+  -- row 19 is met by no input
+  has-previous : Accepted (a .message) → (isFull (a .message) && eqb (standardCount (a .message)) 0) ≡ false
+  has-previous accepts =
+      let m = a .message in
+      ⊎-elim (λ e. rw (e, ne-eqb (standardCount m) 0 (λ z. omega (arith, full-has-standard m accepts (ltb-true _ _ e))))) (λ e. rw e)
+      (decided (isFull m))
+
+  pub not-dropped : Taken a sheet recent output note → NoneApplies (table a sheet recent output note)
+  unfolding table lendingRows deliveryRows routeRows
+  not-dropped t =
+      let first : NoneApplies before =
+      (rw (le-ltb _ _ (t .output-room), le-ltb _ _ (t .note-room)), (rw (t .recent-formed), (rw (t .sheet-valid), (lt-leb _ _ (t .receives), tt)))) in
+      let last : NoneApplies behind = (rw (t .reaches), (t .near, (t .few, (t .unseen, (t .last-hop, (has-previous (t .message), tt)))))) in
+      none-joined before (messageRows (a .message) ++ behind) first
+      (none-joined (messageRows (a .message)) behind (applies-none (a .message) (t .message)) last)
+
+-- the verdict: its number is that of the first row that applies; where it is 0 none does, and it is what was found out
+module _ (a : Arrival) (sheet recent : List ℕ) (output note : ℕ) (v : Verdict) (told : v ≡ verdictOf a sheet recent output note) where
+  abbrev pass : Verdict
+  pass = passVerdict (headerOf (a .message)) (blocksSeen (a .message)) sheet
+
+  abbrev rows : List Row
+  rows = table a sheet recent output note
+
+  number-is : v .number ≡ firstOf rows
+  unfolding verdictOf dropVerdict passVerdict
+  number-is =
+      let number : Verdict → ℕ = λ (x : Verdict). x .number in
+      ap number told ∙ number-kept dropVerdict pass number rows (λ n. refl) refl
+
+  pub verdict-first : (v .number ≡ 0 → ⊥) → IsFirst rows (v .number)
+  verdict-first some = rw number-is (some-first rows (λ z. some (number-is ∙ z)))
+
+  module _ (passes : v .number ≡ 0) where
+    pub verdict-none : NoneApplies rows
+    verdict-none = zero-passes a sheet recent output note (sym number-is ∙ passes)
+
+    pub verdict-passes : v ≡ pass
+    unfolding verdictOf
+    verdict-passes = told ∙ none-is dropVerdict pass rows verdict-none

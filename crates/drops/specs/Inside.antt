@@ -1,0 +1,36 @@
+-- Inside: what only the contracts of inner functions cite, here and in the crates above. No entry's promise rests on it, and a reader of the definitions may pass it over.
+-- Here: the verdict on what arrives: the drop number, and for an accepted message all that was found out on the way.
+use Prim.Native.Nat.{ℕ}
+use mathlib.Core.Bool.{Bool, false}
+use mathlib.Core.List.{List, _++_}
+use Rattle.rows.specs.Rows.{byFirst}
+use Rattle.route.specs.declared.Chosen.the-variants.{Nothing}
+use Rattle.message.specs.declared.Header.{Header}
+use Rattle.message.specs.declared.Blocks.{Blocks}
+use Rattle.message.specs.Header.{headerOf}
+use Rattle.message.specs.Inside.{noHeader, noBlocks, blocksSeen}
+use Rattle.drops.specs.declared.Verdict.{Verdict}
+use Rattle.drops.specs.Arrival.{Arrival, routeFor, lastHopFor}
+use Rattle.drops.specs.Drop.{deliveryRows, routeRows, table}
+
+-- a drop: its number, and nothing else
+unfoldable pub dropVerdict : ℕ → Verdict
+dropVerdict number =
+    record { number = number; header = noHeader; blocks = noBlocks; chosen = Nothing; proper = false }
+
+-- number 0: the header and the blocks of the message, the route for it, and whether this is its proper last hop
+unfoldable pub passVerdict : Header → Blocks → List ℕ → Verdict
+passVerdict h blocks sheet =
+    record { number = 0; header = h; blocks = blocks; chosen = routeFor sheet h; proper = lastHopFor sheet h }
+
+-- from row 14 on, for a message of this header and these blocks, which is full or not
+unfoldable pub routedOf : Bool → Header → Blocks → ℕ → ℕ → List ℕ → List ℕ → Verdict
+routedOf full h blocks destination ttl sheet recent =
+    byFirst dropVerdict (passVerdict h blocks sheet)
+    (deliveryRows sheet recent h (blocks .count) destination ttl ++ routeRows (lastHopFor sheet h) h (blocks .count) full destination)
+
+-- the verdict on what arrives
+unfoldable pub verdictOf : Arrival → List ℕ → List ℕ → ℕ → ℕ → Verdict
+verdictOf a sheet recent output note =
+    let m = a .message in
+    byFirst dropVerdict (passVerdict (headerOf m) (blocksSeen m) sheet) (table a sheet recent output note)

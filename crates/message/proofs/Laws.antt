@@ -1,0 +1,10 @@
+-- The laws of messages that other crates cite.
+
+-- an accepted message, one to which no row of 5 to 13 applies: what is known of it, and what the check answers for it
+pub use Rattle.message.proofs.Accept.{Accepted, none-applies, applies-none, check-number, check-accepts, accepts-as, accepted-kinds, accepted-query, full-has-standard}
+-- where its type 4 blocks stand
+pub use Rattle.message.proofs.Standards.{standards-fit, last-high}
+-- what a router sends: a type 4 block appended and a type written
+pub use Rattle.message.proofs.Sent.{sent-header, sent-count, sent-accepted}
+-- the type 4 blocks as bytes, of what is sent
+pub use Rattle.message.proofs.Bytes.{standard-blocks-count, sent-standard-blocks, coded-standard-blocks}

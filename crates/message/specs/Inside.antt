@@ -1,0 +1,49 @@
+-- Inside: what only the contracts of inner functions cite, here and in the crates above, and laws. No entry's promise rests on it, and a
+-- reader of the definitions may pass it over.
+use Prim.Native.Nat.{ℕ}
+use mathlib.Core.List.{List}
+use mathlib.Core.Path.{_≡_}
+use lib.ListN.{length, getD}
+use Rattle.wire.specs.Numbers.{byteAt, be16}
+use Rattle.rows.specs.Rows.{byFirst}
+use Rattle.message.specs.declared.Header.{Header}
+use Rattle.message.specs.declared.Blocks.{Blocks}
+use Rattle.message.specs.declared.Checked.{Checked}
+use Rattle.message.specs.Format.{standard, standardSize}
+use Rattle.message.specs.Header.{headerOf}
+use Rattle.message.specs.Blocks.{standards, blocksEnd, standardCount, lastStandard}
+use Rattle.message.specs.Check.{messageRows}
+
+-- the place of type 4 block k, counted from 0
+abbrev pub standardAt : List ℕ → ℕ → ℕ
+standardAt s k = getD (standards s) k 0
+
+-- the bytes of a type 4 block: 52, which begin with its type and its length
+pub record StandardBlock (bytes : List ℕ) : Type 0 where
+  pub long : length bytes ≡ standardSize
+  pub kind : byteAt bytes 0 ≡ standard
+  pub size : be16 bytes 1 ≡ standardSize
+
+-- where the blocks of a message end, how many are of type 4, and the last of those
+unfoldable pub blocksSeen : List ℕ → Blocks
+blocksSeen s = record { end = blocksEnd s; count = standardCount s; last = lastStandard s }
+
+-- a header of zeros
+abbrev pub noHeader : Header
+noHeader = record { kind = 0; length = 0; hops = 0; group = 0; source = 0; client = 0; id = 0; port = 0 }
+
+-- blocks of which nothing was seen
+abbrev pub noBlocks : Blocks
+noBlocks = record { end = 0; count = 0; last = 0 }
+
+-- a refused message has its number, and zeros for all else
+unfoldable pub refusedMessage : ℕ → Checked
+refusedMessage number = record { number = number; header = noHeader; blocks = noBlocks }
+
+-- an accepted one has number 0, its header, and what was seen of its blocks
+unfoldable pub acceptedMessage : List ℕ → Checked
+acceptedMessage s = record { number = 0; header = headerOf s; blocks = blocksSeen s }
+
+-- what the check answers
+unfoldable pub checkOf : List ℕ → Checked
+checkOf s = byFirst refusedMessage (acceptedMessage s) (messageRows s)

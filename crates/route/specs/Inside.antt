@@ -1,0 +1,63 @@
+-- Inside: what only the contracts of this crate's own functions cite. No entry's promise rests on it, and a reader of the definitions may pass it over.
+-- Here: how one pass finds the route. Every route has a rank for a source and a group, and the first of the highest rank is
+-- the one; 0 serves not at all.
+use Prim.Native.Nat.{ℕ, zero, suc, _+_}
+use mathlib.Core.Bool.{Bool, not, _&&_, _||_, cond}
+use mathlib.Core.List.{List}
+use lib.Dec.{ltb}
+use Rattle.wire.specs.Addresses.{allOnes}
+use Rattle.entry.specs.Prefix.{addressBits}
+use Rattle.entry.specs.declared.route.Route.{Route}
+use Rattle.sheet.specs.Tables.{routeOf}
+use Rattle.route.specs.declared.Best.{Best}
+use Rattle.route.specs.Choice.{servesBoth, servesGroup, servesSource}
+
+-- the lowest rank of kind 3; each bit of length is one more
+abbrev pub sourceRank : ℕ
+sourceRank = 1
+
+-- the rank of kind 2, above all of kind 3
+abbrev pub groupRank : ℕ
+groupRank = sourceRank + addressBits + 1
+
+-- what kind 1 ranks above
+abbrev pub bothRank : ℕ
+bothRank = groupRank + 1
+
+-- the rank by three tests, the first of which counts most
+unfoldable pub rankBy : (Route → Bool) → (Route → Bool) → (Route → Bool) → Route → ℕ
+rankBy both shared sourced r =
+    cond (both r) (bothRank + r .length) (cond (shared r) (groupRank + r .length) (cond (sourced r) (sourceRank + r .length) 0))
+
+-- kind 1 wants a source and a group
+abbrev pub asBoth : ℕ → ℕ → Route → Bool
+asBoth source group r = not (allOnes source) && not (allOnes group) && servesBoth source group r
+
+-- kind 2 wants a group, or no source
+abbrev pub asGroup : ℕ → ℕ → Route → Bool
+asGroup source group r = (allOnes source || not (allOnes group)) && servesGroup group r
+
+-- kind 3 wants a source
+abbrev pub asSource : ℕ → Route → Bool
+asSource source r = not (allOnes source) && servesSource source r
+
+-- the rank of a route for a source and a group
+abbrev pub rankOf : ℕ → ℕ → Route → ℕ
+rankOf source group = rankBy (asBoth source group) (asGroup source group) (asSource source)
+
+-- the ranks of a sheet's routes
+unfoldable pub ranksIn : List ℕ → ℕ → ℕ → ℕ → ℕ
+ranksIn sheet source group k = rankOf source group (routeOf sheet k)
+
+-- a rank, and the place of the route that has it
+abbrev pub best : ℕ → ℕ → Best
+best rank at = record { rank = rank; at = at }
+
+-- the route at k takes the place of the best so far only if its rank is higher
+unfoldable pub better : Best → ℕ → ℕ → Best
+better b rank k = cond (ltb (b .rank) rank) (best rank k) b
+
+-- the best of the first n routes
+unfoldable pub bestOf : (ℕ → ℕ) → ℕ → Best
+bestOf rank zero = best 0 0
+bestOf rank (suc n) = better (bestOf rank n) (rank n) n

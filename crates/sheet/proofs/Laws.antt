@@ -1,0 +1,8 @@
+-- What the crates above may cite of a sheet.
+
+-- what the check tells: whether it is valid, and at most 64 interfaces
+pub use Rattle.sheet.proofs.Entries.{valid-told, interfaces-few}
+-- an interface, and a route, that is counted: the sheet is valid, and it keeps its rules
+pub use Rattle.sheet.proofs.Entries.{interface-valid, interface-few, interface-keeps, route-keeps}
+-- who holds an address: an interface of the sheet, the lowest that does; nobody only where none does
+pub use Rattle.sheet.proofs.Holders.{holder-there, holder-holds, holder-lowest, nobody-holds}
