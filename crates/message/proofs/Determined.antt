@@ -2,11 +2,15 @@
 use mathlib.Core.Path.{_≡_}
 use Rattle.wire.proofs.Laws.{both-are}
 use Rattle.message.proofs.header_of.Reads as header-of
+use Rattle.message.proofs.block_at.Reads as block-at
 use Rattle.message.proofs.blocks_of.Reads as blocks-of
 use Rattle.message.proofs.check.Reads as check
 
 pub header-of-determined : (κs : _) (a : _) (x y : _) (e f : _) → header-of.Post κs a x e → header-of.Post κs a y f → x ≡ y
 header-of-determined κs a x y e f = both-are
+
+pub block-at-determined : (κs : _) (a : _) (x y : _) (e f : _) → block-at.Post κs a x e → block-at.Post κs a y f → x ≡ y
+block-at-determined κs a x y e f = both-are
 
 pub blocks-of-determined : (κs : _) (a : _) (x y : _) (e f : _) → blocks-of.Post κs a x e → blocks-of.Post κs a y f → x ≡ y
 blocks-of-determined κs a x y e f = both-are

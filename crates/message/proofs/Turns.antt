@@ -1,24 +1,25 @@
 -- What each turn of the walk over the blocks shows: the answer for the whole message is what was found so far, joined with
 -- what the blocks from here on give.
 use Prim.Native.Nat.{ℕ, suc, _+_, _-_, _≤_, _<_}
-use mathlib.Core.Path.{_≡_, sym, _∙_}
+use mathlib.Core.Path.{_≡_, refl, sym, ap, _∙_}
 use mathlib.Core.Bool.{Bool, true, false, not, cond}
-use mathlib.Core.List.{List, _∷_}
+use mathlib.Core.List.{List, [], _∷_}
 use mathlib.Core.Logic.{⊎-elim}
 use native.Mathlib.Omega.{arith}
 use native.Mathlib.Nat.{add-zero, zero-add, add-assoc}
-use borrow.Author.Tests.{not-true, not-false, leb-true}
+use borrow.Author.Tests.{not-true, not-false, eqb-true}
 use lib.Dec.{eqb}
 use lib.ListN.{length, drop, length-drop}
 use lib.Seq.{getD-drop, drop-drop}
 use Rattle.wire.specs.Numbers.{byteAt, be16}
-use Rattle.rows.proofs.Laws.{cond-cases, decided, both-of}
+use Rattle.rows.proofs.Laws.{cond-cases, decided}
 use Rattle.wire.proofs.Laws.{be-drop}
 use Rattle.message.specs.declared.Blocks.{Blocks}
-use Rattle.message.specs.Format.{headerSize, standard, augmentedLeast}
-use Rattle.message.specs.Blocks.{Placed, placedAt, begins, rightSize, fitsIn, blocksFrom, blocksOf, totalSize, standardPlaces, lastOr, standards, blocksEnd}
-use Rattle.message.specs.Inside.{blocksSeen}
-use Rattle.message.proofs.Cut.{size-right, too-short, no-blocks, block-first}
+use Rattle.message.specs.declared.BlockHead.{BlockHead}
+use Rattle.message.specs.Format.{headerSize, standard, standardSize, augmentedLeast}
+use Rattle.message.specs.Blocks.{Placed, placedAt, begins, fitsIn, blocksFrom, blocksOf, totalSize, standardPlaces, lastOr, standards, blocksEnd}
+use Rattle.message.specs.Inside.{noBlock, blockAt, standardsFrom, blocksSeen}
+use Rattle.message.proofs.Cut.{Begun, begun, too-short, no-blocks, block-first}
 
 -- what was found up to a place, joined with the blocks from there on
 unfoldable pub joined : ℕ → ℕ → ℕ → List Placed → Blocks
@@ -49,56 +50,107 @@ joined-first block count last others =
     (λ e. rw (standard-same block others e, e, far))
     (decided (eqb (block .kind) standard))
 
--- a block that fits is not empty, and does not pass the end
-pub size-least : (kind size left : ℕ) (fits : Bool) → fits ≡ fitsIn kind size left → not fits ≡ false → augmentedLeast ≤ size
-unfolding fitsIn
-size-least kind size left fits f n = size-right kind size (both-of (rightSize kind size) _ (sym f ∙ not-false fits n) .0) .0
+-- the block at a place: none where too little is left or what stands there is none, else the one that stands there
+module _ (s : List ℕ) (at : ℕ) where
+  no-block : begins (drop at s) ≡ false → noBlock ≡ blockAt s at
+  unfolding blockAt
+  no-block e = rw e
 
-pub size-inside : (kind size left : ℕ) (fits : Bool) → fits ≡ fitsIn kind size left → not fits ≡ false → size ≤ left
-unfolding fitsIn
-size-inside kind size left fits f n = leb-true _ _ (both-of (rightSize kind size) _ (sym f ∙ not-false fits n) .1)
-
--- no more blocks are counted than bytes passed
-pub count-inside : (kind size left at count count′ : ℕ) (fits : Bool) → fits ≡ fitsIn kind size left → not fits ≡ false → count ≤ at
-    → count′ ≡ cond (eqb kind standard) (count + 1) count → count′ ≤ at + size
-count-inside kind size left at count count′ fits f n h e =
-    let least : augmentedLeast ≤ size = size-least kind size left fits f n in
-    rw e (cond-cases (λ m. m ≤ at + size) (eqb kind standard) (count + 1) count (λ _. omega arith) (λ _. omega arith))
-
--- where the walk begins nothing was found yet
-pub at-first : (s : List ℕ) → blocksSeen s ≡ joined headerSize 0 0 (blocksFrom headerSize (drop headerSize s))
-unfolding blocksSeen blocksEnd standards blocksOf joined
-at-first s = rw zero-add
-
-module _ (s : List ℕ) (at count last : ℕ) (so-far : blocksSeen s ≡ joined at count last (blocksFrom at (drop at s))) where
-  -- no block begins here
-  stopped : begins (drop at s) ≡ false → record { end = at; count = count; last = last } ≡ blocksSeen s
-  unfolding joined totalSize standardPlaces lastOr
-  stopped e = rw (so-far, no-blocks at (drop at s) e, add-zero, add-zero)
-
-  pub stopped-short : length s - at < 3 → record { end = at; count = count; last = last } ≡ blocksSeen s
-  stopped-short h = stopped (too-short (drop at s) (rw (length-drop at s) (omega arith)))
+  pub none-short : length s - at < 3 → noBlock ≡ blockAt s at
+  none-short h = no-block (too-short (drop at s) (rw (length-drop at s) (omega arith)))
 
   module _ (size : ℕ) (fits : Bool) (z : size ≡ be16 s (at + 1)) (f : fits ≡ fitsIn (byteAt s at) size (length s - at)) where
     begins-by : begins (drop at s) ≡ fits
     unfolding begins
     begins-by = rw (be-drop 1 s at 1, getD-drop at s 0 0, add-zero, length-drop at s, ← z) (sym f)
 
-    pub stopped-broken : not fits ≡ true → record { end = at; count = count; last = last } ≡ blocksSeen s
-    stopped-broken n = stopped (begins-by ∙ not-true fits n)
+    pub none-broken : not fits ≡ true → noBlock ≡ blockAt s at
+    none-broken n = no-block (begins-by ∙ not-true fits n)
 
-    pub one-on : (count′ last′ : ℕ) → not fits ≡ false → count′ ≡ cond (eqb (byteAt s at) standard) (count + 1) count → last′ ≡ cond (eqb (byteAt s at) standard) at last
-        → blocksSeen s ≡ joined (at + size) count′ last′ (blocksFrom (at + size) (drop (at + size) s))
-    one-on count′ last′ n c l =
-        rw (
-          so-far,
-          block-first at (drop at s) (begins-by ∙ not-false fits n),
-          joined-first (placedAt at (drop at s)) count last (blocksFrom (at + be16 (drop at s) 1) (drop (be16 (drop at s) 1) (drop at s))),
-          drop-drop,
-          be-drop 1 s at 1,
-          getD-drop at s 0 0,
-          add-zero,
-          ← z,
-          c,
-          l,
-        )
+    pub one-there : not fits ≡ false → record { kind = byteAt s at; size = size } ≡ blockAt s at
+    unfolding blockAt
+    one-there n = rw (begins-by ∙ not-false fits n, be-drop 1 s at 1, getD-drop at s 0 0, add-zero, ← z)
+
+-- what is known of it by its length, which is 0 where there is none
+module _ (s : List ℕ) (at : ℕ) (block : BlockHead) (b : block ≡ blockAt s at) where
+  abbrev rest : List ℕ
+  rest = drop at s
+
+  there : begins rest ≡ true → block ≡ record { kind = byteAt rest 0; size = be16 rest 1 }
+  unfolding blockAt
+  there e = b ∙ rw e
+
+  nowhere : begins rest ≡ false → block ≡ noBlock
+  unfolding blockAt
+  nowhere e = b ∙ rw e
+
+  ends : block .size ≡ 0 → begins rest ≡ false
+  ends z =
+      ⊎-elim
+      (λ e. absurd (omega (arith, z, begun rest e .least, ap (λ (h : BlockHead). h .size) (there e))))
+      (λ e. e)
+      (decided (begins rest))
+
+  module _ (some : block .size ≡ 0 → ⊥) where
+    starts : begins rest ≡ true
+    starts = ⊎-elim (λ e. e) (λ e. absurd (some (ap (λ (h : BlockHead). h .size) (nowhere e)))) (decided (begins rest))
+
+    size-there : block .size ≡ be16 rest 1
+    size-there = ap (λ (h : BlockHead). h .size) (there starts)
+
+    -- it is not empty, it lies within, and type 4 has its size
+    pub size-least : augmentedLeast ≤ block .size
+    size-least = rw size-there (begun rest starts .least)
+
+    pub size-inside : at ≤ length s → at + block .size ≤ length s
+    size-inside h = omega (arith, size-there, begun rest starts .inside, length-drop at s)
+
+    pub moves-on : at ≤ length s → length s - (at + block .size) < length s - at
+    moves-on h = omega (arith, size-least, size-inside h)
+
+    pub size-standard : eqb (block .kind) standard ≡ true → block .size ≡ standardSize
+    size-standard e = size-there ∙ begun rest starts .standard-size (ap (λ (h : BlockHead). h .kind) (sym (there starts)) ∙ eqb-true (block .kind) standard e)
+
+    -- the blocks from here on: that one, and those behind it
+    blocks-on : blocksFrom at rest ≡ record { at = at; kind = block .kind; size = block .size } ∷ blocksFrom (at + block .size) (drop (at + block .size) s)
+    blocks-on =
+        block-first at rest starts
+        ∙ rw (there starts, drop-drop)
+
+    pub standards-more : eqb (block .kind) standard ≡ true → standardsFrom s at ≡ at ∷ standardsFrom s (at + block .size)
+    unfolding standardsFrom
+    standards-more e = rw blocks-on (standard-more (record { at = at; kind = block .kind; size = block .size }) _ e)
+
+    pub standards-same : eqb (block .kind) standard ≡ false → standardsFrom s at ≡ standardsFrom s (at + block .size)
+    unfolding standardsFrom
+    standards-same e = rw blocks-on (standard-same (record { at = at; kind = block .kind; size = block .size }) _ e)
+
+  -- none are left
+  pub standards-over : block .size ≡ 0 → standardsFrom s at ≡ []
+  unfolding standardsFrom standardPlaces
+  standards-over z = rw (no-blocks at rest (ends z))
+
+  -- the walk over them
+  module _ (count last : ℕ) (so-far : blocksSeen s ≡ joined at count last (blocksFrom at rest)) where
+    pub stopped : block .size ≡ 0 → record { end = at; count = count; last = last } ≡ blocksSeen s
+    unfolding joined totalSize standardPlaces lastOr
+    stopped z = rw (so-far, no-blocks at rest (ends z), add-zero, add-zero)
+
+    pub one-on : (count′ last′ : ℕ) → (block .size ≡ 0 → ⊥) → count′ ≡ cond (eqb (block .kind) standard) (count + 1) count → last′ ≡ cond (eqb (block .kind) standard) at last
+        → blocksSeen s ≡ joined (at + block .size) count′ last′ (blocksFrom (at + block .size) (drop (at + block .size) s))
+    one-on count′ last′ some c l =
+        rw (so-far, blocks-on some, joined-first (record { at = at; kind = block .kind; size = block .size }) count last _, c, l)
+
+  -- no more blocks are counted than bytes passed
+  pub count-inside : (count count′ : ℕ) → (block .size ≡ 0 → ⊥) → count ≤ at → count′ ≡ cond (eqb (block .kind) standard) (count + 1) count → count′ ≤ at + block .size
+  count-inside count count′ some h e =
+      rw e (cond-cases (λ m. m ≤ at + block .size) (eqb (block .kind) standard) (count + 1) count (λ _. omega (arith, size-least some)) (λ _. omega arith))
+
+-- where the walk begins nothing was found yet
+pub at-first : (s : List ℕ) → blocksSeen s ≡ joined headerSize 0 0 (blocksFrom headerSize (drop headerSize s))
+unfolding blocksSeen blocksEnd standards blocksOf joined
+at-first s = rw zero-add
+
+pub all-standards : (s : List ℕ) → standards s ≡ standardsFrom s headerSize
+unfolding standards blocksOf standardsFrom
+all-standards s = refl

@@ -3,15 +3,17 @@
 use Prim.Native.Nat.{ℕ}
 use mathlib.Core.List.{List}
 use mathlib.Core.Path.{_≡_}
-use lib.ListN.{length, getD}
+use mathlib.Core.Bool.{cond}
+use lib.ListN.{length, getD, drop}
 use Rattle.wire.specs.Numbers.{byteAt, be16}
 use Rattle.rows.specs.Rows.{byFirst}
 use Rattle.message.specs.declared.Header.{Header}
 use Rattle.message.specs.declared.Blocks.{Blocks}
+use Rattle.message.specs.declared.BlockHead.{BlockHead}
 use Rattle.message.specs.declared.Checked.{Checked}
 use Rattle.message.specs.Format.{standard, standardSize}
 use Rattle.message.specs.Header.{headerOf}
-use Rattle.message.specs.Blocks.{standards, blocksEnd, standardCount, lastStandard}
+use Rattle.message.specs.Blocks.{begins, blocksFrom, standardPlaces, standards, blocksEnd, standardCount, lastStandard}
 use Rattle.message.specs.Check.{messageRows}
 
 -- the place of type 4 block k, counted from 0
@@ -23,6 +25,19 @@ pub record StandardBlock (bytes : List ℕ) : Type 0 where
   pub long : length bytes ≡ standardSize
   pub kind : byteAt bytes 0 ≡ standard
   pub size : be16 bytes 1 ≡ standardSize
+
+-- no block
+abbrev pub noBlock : BlockHead
+noBlock = record { kind = 0; size = 0 }
+
+-- the type and the length of the block that begins at a place, where one does
+unfoldable pub blockAt : List ℕ → ℕ → BlockHead
+blockAt s at =
+    let block : BlockHead = record { kind = byteAt (drop at s) 0; size = be16 (drop at s) 1 } in cond (begins (drop at s)) block noBlock
+
+-- the places of the type 4 blocks from a place on
+unfoldable pub standardsFrom : List ℕ → ℕ → List ℕ
+standardsFrom s at = standardPlaces (blocksFrom at (drop at s))
 
 -- where the blocks of a message end, how many are of type 4, and the last of those
 unfoldable pub blocksSeen : List ℕ → Blocks

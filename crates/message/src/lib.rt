@@ -8,7 +8,7 @@ ghost use Rattle.message.specs.Header.{headerOf};
 ghost use Rattle.message.specs.Blocks.{fitsIn, rightForm, blocksEnd};
 ghost use Rattle.rows.specs.Rows.{firstOf};
 ghost use Rattle.message.specs.Check.{headerRows};
-ghost use Rattle.message.specs.Inside.{blocksSeen, refusedMessage, checkOf};
+ghost use Rattle.message.specs.Inside.{blockAt, blocksSeen, refusedMessage, checkOf};
 
 pub const HEADER_SIZE: usize = 20;
 
@@ -40,7 +40,7 @@ const AUGMENTED_UNIT: usize = 4;
 pub const NOTE_SIZE: usize = 16;
 
 // A block has at least its type and its length.
-const BLOCK_HEAD: usize = 3;
+const HEAD_SIZE: usize = 3;
 
 // The drop numbers of a message by itself.
 const DROP_SIZE: u32 = 5;
@@ -71,6 +71,12 @@ pub struct Header {
     pub client: u32,
     pub id: u16,
     pub port: u16,
+}
+
+// The type and the whole length of a block; zeros where there is none.
+pub struct BlockHead {
+    pub kind: u8,
+    pub size: usize,
 }
 
 // What one walk over the blocks finds: where they end, how many are of type 4, and the place of the last of those.
@@ -143,6 +149,23 @@ fn either(first: bool, a: usize, b: usize) -> usize
     if first { a } else { b }
 }
 
+// The block that begins at a place.
+pub fn block_at(s: &[u8], at: usize) -> BlockHead
+    requires { ⌜ at ≤ length (now s) ⌝ }
+    ensures { λ r. ⌜ r ≡ blockAt (now (s .entry)) at ⌝ }
+{
+    let left = s.len() - at;
+    if left < HEAD_SIZE {
+        return BlockHead { kind: 0, size: 0 };
+    }
+    let kind = s[at];
+    let size = wire::be16(s, at + 1) as usize;
+    if !fits_in(kind, size, left) {
+        return BlockHead { kind: 0, size: 0 };
+    }
+    BlockHead { kind, size }
+}
+
 // One walk over the blocks of a message, from each to the next by its length, up to the end or to what is no block.
 pub fn blocks_of(s: &[u8]) -> Blocks
     requires { ⌜ headerSize ≤ length (now s) ⌝ }
@@ -151,24 +174,18 @@ pub fn blocks_of(s: &[u8]) -> Blocks
     let mut at: usize = HEADER_SIZE;
     let mut count: usize = 0;
     let mut last: usize = 0;
-    while BLOCK_HEAD <= s.len() - at {
-        let kind = s[at];
-        let size = wire::be16(s, at + 1) as usize;
-        if !fits_in(kind, size, s.len() - at) {
+    loop {
+        let block = block_at(s, at);
+        if block.size == 0 {
             return Blocks {
                 end: at,
                 count,
                 last,
             };
         }
-        count = either(kind == STANDARD, count + 1, count);
-        last = either(kind == STANDARD, at, last);
-        at += size;
-    }
-    Blocks {
-        end: at,
-        count,
-        last,
+        count = either(block.kind == STANDARD, count + 1, count);
+        last = either(block.kind == STANDARD, at, last);
+        at += block.size;
     }
 }
 
