@@ -14,9 +14,9 @@ ghost use Rattle.yard.specs.Walk.{visit, sentFor, sentAt, refusedWalk, w
 ghost use Rattle.yard.specs.Inside.{Counted, YardChecked, CanEnter, Called, Hopped, Ended};
 
 // Bytes of a router's sheet in a yard, and the most routers.
-const SHEET_SIZE: usize = 1024;
+pub const SHEET_SIZE: usize = 1024;
 
-const MOST_ROUTERS: usize = 32;
+pub const MOST_ROUTERS: usize = 32;
 
 // The ends of a walk besides the engine's: sent to a group, and nobody holds the address.
 const TO_GROUP: u32 = 102;

@@ -1,0 +1,28 @@
+-- `walk_from`: the numbers are read from their places.
+use Rattle.text.proofs.Given.{walk-from}
+use borrow.Author.Needs.{needs}
+use Rattle.text.proofs.walk_from.Statement.{statement}
+use Rattle.text.proofs.walk_from.Tie as tie
+
+returns : tie.Need-returns
+returns c = search walk-from
+
+pub walk-from-spec : {M : Type 1} → statement M
+walk-from-spec =
+    tie.close
+    (tie.spec
+    (λ c κs. search needs)
+    (λ c κs. search needs)
+    (λ c. search needs)
+    (λ c κs. search needs)
+    (λ c. search needs)
+    (λ c κs. search needs)
+    (λ c. search needs)
+    (λ c κs. search needs)
+    (λ c. search needs)
+    (λ c. search needs)
+    (λ c. search needs)
+    (λ c. search needs)
+    (λ c κs. search needs)
+    (λ c. search needs)
+    returns)
