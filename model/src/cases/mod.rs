@@ -36,7 +36,7 @@ const ALL: [Cases; 8] = [
 
 /// P1 as the program `walk` reads and writes it.
 fn p1() -> Tape {
-    let stdin = program::input(worked::DESTINATION, &worked::query(10), &worked::yard(0));
+    let stdin = program::input(worked::start(&worked::query(10)), &worked::yard(0));
     let stdout = program::run(&stdin);
     Tape { stdin, stdout }
 }
