@@ -131,16 +131,19 @@ impl Cases {
     }
 
     fn command(&mut self, setup: &Setup, place: usize) {
-        let mut fields = vec![0];
-        fields.extend((place as u16).to_be_bytes());
-        fields.extend((setup.message.len() as u32).to_be_bytes());
-        for length in [setup.sheet.len(), setup.recent.len(), setup.output, setup.record] {
-            fields.extend((length as u16).to_be_bytes());
-        }
-        for number in [setup.destination, setup.receiving, setup.ttl, setup.time] {
-            fields.extend(number.to_be_bytes());
-        }
-        self.tape.command(STEP, &fields);
+        let fields = [
+            (2, 2, place as u64),
+            (4, 4, setup.message.len() as u64),
+            (8, 2, setup.sheet.len() as u64),
+            (10, 2, setup.recent.len() as u64),
+            (12, 2, setup.output as u64),
+            (14, 2, setup.record as u64),
+            (16, 4, setup.destination.into()),
+            (20, 4, setup.receiving.into()),
+            (24, 4, setup.ttl.into()),
+            (28, 4, setup.time.into()),
+        ];
+        self.tape.fields(STEP, &fields);
     }
 
     /// Where the last type 4 block of what was sent has its code.

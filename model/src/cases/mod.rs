@@ -10,6 +10,7 @@ mod route;
 mod sheet;
 mod situations;
 mod tape;
+mod trips;
 mod walk;
 
 use crate::{program, worked};

@@ -4,6 +4,8 @@
 //! from byte 2 on, whose length is byte 1, as the first part of a line; the number of an area puts
 //! bytes 4 to 31 into that area, at the place that bytes 2 and 3 give.
 
+use crate::bytes::all_zero;
+
 /// Every command has this many bytes.
 const COMMAND: usize = 32;
 const TEXT: usize = 2;
@@ -18,6 +20,7 @@ pub struct Tape {
 }
 
 /// Bytes that a program keeps, as they stand after the commands so far.
+#[derive(Clone)]
 pub struct Area {
     number: u8,
     pub bytes: Vec<u8>,
@@ -37,10 +40,22 @@ impl Tape {
         self.stdin.extend(command);
     }
 
-    /// A command with numbers from byte 8 on, 8 bytes each, big-endian.
-    pub fn numbers(&mut self, operation: u8, fields: &[u64]) {
-        let fields: Vec<u8> = fields.iter().flat_map(|field| field.to_be_bytes()).collect();
-        self.command(operation, &[&[0; 7], fields.as_slice()].concat());
+    /// A command with big-endian numbers: the place of each, how many bytes it has, the number.
+    pub fn fields(&mut self, operation: u8, fields: &[(usize, usize, u64)]) {
+        let mut command = [0; COMMAND];
+        for (place, width, number) in fields {
+            let bytes = number.to_be_bytes();
+            let (unused, bytes) = bytes.split_at(8 - width);
+            assert!(all_zero(unused), "{number} in {width} bytes");
+            command[*place..place + width].copy_from_slice(bytes);
+        }
+        self.command(operation, &command[1..]);
+    }
+
+    /// A command with numbers from byte 8 on, 8 bytes each.
+    pub fn numbers(&mut self, operation: u8, numbers: &[u64]) {
+        let fields: Vec<_> = numbers.iter().zip((8..).step_by(8)).map(|(number, place)| (place, 8, *number)).collect();
+        self.fields(operation, &fields);
     }
 
     /// Has the program begin its next line with a text.
