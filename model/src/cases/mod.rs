@@ -10,6 +10,7 @@ mod route;
 mod sheet;
 mod situations;
 mod tape;
+mod text;
 mod trips;
 mod walk;
 
@@ -24,7 +25,7 @@ struct Cases {
     make: fn() -> Tape,
 }
 
-const ALL: [Cases; 8] = [
+const ALL: [Cases; 9] = [
     Cases { name: "clock", folder: "clock_cases", make: clock::tape },
     Cases { name: "sheet", folder: "sheet_cases", make: sheet::tape },
     Cases { name: "route", folder: "route_cases", make: route::tape },
@@ -32,6 +33,7 @@ const ALL: [Cases; 8] = [
     Cases { name: "recent", folder: "recent_cases", make: recent::tape },
     Cases { name: "engine", folder: "engine_cases", make: engine::tape },
     Cases { name: "walk", folder: "walk_cases", make: walk::tape },
+    Cases { name: "text", folder: "text_cases", make: text::tape },
     Cases { name: "program", folder: "walk", make: p1 },
 ];
 

@@ -5,7 +5,7 @@ use crate::rng::Rng;
 use crate::walk::Start;
 use crate::worked;
 
-const GROUP: u32 = ip(232, 1, 1, 1);
+pub const GROUP: u32 = ip(232, 1, 1, 1);
 const SOURCE: u32 = ip(203, 0, 113, 9);
 const CLIENT: u32 = ip(192, 0, 2, 50);
 
@@ -162,6 +162,24 @@ pub fn line_trip(routers: usize, start: usize, hops: u8) -> Trip {
         receiving: 0,
         destination: receiving_address(start),
         ttl: 64,
+    }
+}
+
+/// A router of a line that has four interfaces; the last two are on no route.
+pub fn wide(number: usize, routers: usize) -> SheetPlan {
+    let mut plan = router(number, next(number, routers));
+    plan.interfaces.extend([22, 23].map(|net| InterfaceEntry::new(ip(10, net, number as u8, 1), 24)));
+    plan
+}
+
+/// A walk along a line of such routers, from any interface of any of them.
+pub fn wide_trip(routers: usize, start: usize, receiving: usize) -> Trip {
+    let plans: Vec<SheetPlan> = (0..routers).map(|number| wide(number, routers)).collect();
+    Trip {
+        yard: yard_of(&plans),
+        receiving: receiving as u32,
+        destination: plans[start].interfaces[receiving].address,
+        ..line_trip(routers, start, 9)
     }
 }
 
