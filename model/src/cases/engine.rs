@@ -408,11 +408,11 @@ impl Cases {
 }
 
 /// A fault of a step's input.
-struct Wrong {
-    name: String,
-    number: u32,
+pub struct Wrong {
+    pub name: String,
+    pub number: u32,
     /// Whether it is also tried together with others.
-    paired: bool,
+    pub paired: bool,
     how: How,
 }
 
@@ -422,7 +422,7 @@ enum How {
 }
 
 impl Wrong {
-    fn make(&self, setup: &mut Setup) {
+    pub fn make(&self, setup: &mut Setup) {
         match self.how {
             How::Message(make) => make(&mut setup.message),
             How::Setup(make) => make(setup),
@@ -431,7 +431,7 @@ impl Wrong {
 }
 
 /// An accepted Query and an accepted Request, each with the faults that it can have.
-fn bases() -> [(&'static str, Setup, Vec<Wrong>); 2] {
+pub fn bases() -> [(&'static str, Setup, Vec<Wrong>); 2] {
     let plan = accepting();
     let both = || SETUP.iter().map(wrong).collect::<Vec<Wrong>>();
     let mut query = both();

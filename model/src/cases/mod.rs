@@ -2,8 +2,10 @@
 
 mod clock;
 mod engine;
+mod entries;
 mod faults;
 mod message;
+mod places;
 mod plans;
 mod recent;
 mod route;
@@ -25,7 +27,7 @@ struct Cases {
     make: fn() -> Tape,
 }
 
-const ALL: [Cases; 9] = [
+const ALL: [Cases; 10] = [
     Cases { name: "clock", folder: "clock_cases", make: clock::tape },
     Cases { name: "sheet", folder: "sheet_cases", make: sheet::tape },
     Cases { name: "route", folder: "route_cases", make: route::tape },
@@ -33,6 +35,7 @@ const ALL: [Cases; 9] = [
     Cases { name: "recent", folder: "recent_cases", make: recent::tape },
     Cases { name: "engine", folder: "engine_cases", make: engine::tape },
     Cases { name: "walk", folder: "walk_cases", make: walk::tape },
+    Cases { name: "entries", folder: "servicebough_cases", make: entries::tape },
     Cases { name: "text", folder: "text_cases", make: text::tape },
     Cases { name: "program", folder: "walk", make: p1 },
 ];
