@@ -515,7 +515,10 @@ impl Cases {
             self.expect_walk(23, &format!("start {router}"), &Trip { router, ..base.clone() });
         }
         let request = Header { kind: 2, ..header(9) }.with(&[standard(1)]);
-        self.expect_walk(24, "a request", &Trip { message: request, ttl: 255, ..base });
+        for length in [1, 19, 20, 72] {
+            let trip = Trip { message: request[..length].to_vec(), ttl: 255, ..base.clone() };
+            self.expect_walk(24, &format!("type 2, length {length}"), &trip);
+        }
     }
 
     fn first_drops(&mut self) {
