@@ -440,7 +440,8 @@ impl Cases {
 
 // The walk.
 impl Cases {
-    /// What the TTL is cannot matter, since a walk takes no Request; that another argument is not it does.
+    /// The TTL alone cannot be told, since a walk takes no Request and a Query's is not looked at; no other argument
+    /// may be it.
     fn places_of_a_walk(&mut self) {
         for (start, receiving, ttl) in [(1, 2, 3), (2, 1, 0), (2, 3, 1), (1, 3, 64)] {
             let trip = Trip { ttl, times: 6, ..wide_trip(4, start, receiving) };

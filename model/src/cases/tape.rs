@@ -89,3 +89,27 @@ impl Tape {
 pub fn digest(area: &[u8]) -> u64 {
     area.iter().fold(0, |h, byte| (h * 257 + u64::from(*byte) + 1) % 4_294_967_291)
 }
+
+#[cfg(test)]
+mod tests {
+    use super::*;
+
+    #[test]
+    fn fields_at_their_places() {
+        let mut tape = Tape::default();
+        tape.fields(9, &[(2, 2, 0x0102), (28, 4, 0x0304_0506)]);
+        tape.numbers(10, &[7, u64::MAX]);
+        let mut expected = [[0; COMMAND]; 2];
+        expected[0][..4].copy_from_slice(&[9, 0, 1, 2]);
+        expected[0][28..].copy_from_slice(&[3, 4, 5, 6]);
+        expected[1][0] = 10;
+        expected[1][15..24].copy_from_slice(&[7, 255, 255, 255, 255, 255, 255, 255, 255]);
+        assert_eq!(tape.stdin, expected.concat());
+    }
+
+    #[test]
+    #[should_panic(expected = "65536 in 2 bytes")]
+    fn a_number_too_large_for_its_field() {
+        Tape::default().fields(9, &[(2, 2, 65_536)]);
+    }
+}

@@ -183,7 +183,7 @@ impl Cases {
             make(&mut trip);
             self.expect(&format!("refusal {number}"), &trip, &number.to_string(), 0, 0);
         }
-        for router in [3, 31, 32, 256, 65_535] {
+        for router in [3, 31, 32, 256, 257, 65_535] {
             let trip = Trip { router, ..worked_trip(0, 10) };
             self.expect(&format!("start {router}"), &trip, "23", 0, 0);
         }
@@ -204,7 +204,7 @@ impl Cases {
                 self.expect(fault.name, &trip, &fault.number.to_string(), 1, 0);
             }
         }
-        for receiving in [2, 64, 256, 65_535] {
+        for receiving in [2, 64, 256, 257, 65_535] {
             self.expect(&format!("interface {receiving}"), &Trip { receiving, ..base.clone() }, "4", 1, 0);
         }
         for destination in [0, ip(1, 2, 0, 192), ip(198, 51, 100, 2), ip(224, 0, 1, 0), u32::MAX] {
