@@ -7,6 +7,7 @@ pub mod cases;
 pub mod clock;
 pub mod drops;
 pub mod engine;
+pub mod entries;
 pub mod message;
 pub mod program;
 pub mod recent;

@@ -48,21 +48,25 @@ fn dotted(address: &[u8]) -> String {
     address.iter().map(u8::to_string).collect::<Vec<_>>().join(".")
 }
 
-/// The program's input for a walk that begins at interface 0 of router 0.
-pub fn input(destination: u32, query: &[u8], yard: &[u8]) -> Vec<u8> {
+/// The program's input for a walk whose numbers its fields can hold.
+pub fn input(start: Start, yard: &[u8]) -> Vec<u8> {
+    let short = |number: u32| u16::try_from(number).expect("2 bytes").to_be_bytes();
     let mut head = [0; ARRIVAL];
-    head[4..8].copy_from_slice(&destination.to_be_bytes());
-    [&head, query, yard].concat()
+    head[..2].copy_from_slice(&short(start.router));
+    head[2..4].copy_from_slice(&short(start.receiving));
+    head[4..8].copy_from_slice(&start.destination.to_be_bytes());
+    head[8] = u8::try_from(start.ttl).expect("1 byte");
+    [&head, start.message, yard].concat()
 }
 
 #[cfg(test)]
 mod tests {
     use super::*;
     use crate::build::ip;
-    use crate::worked::{query, yard, DESTINATION};
+    use crate::worked::{query, start, yard};
 
     fn worked(upstream_of_second: u32, hops: u8) -> String {
-        run(&input(DESTINATION, &query(hops), &yard(upstream_of_second)))
+        run(&input(start(&query(hops)), &yard(upstream_of_second)))
     }
 
     #[test]
@@ -87,10 +91,25 @@ mod tests {
         assert_eq!(worked(0, 0), "8 steps 1 blocks 0\n");
     }
 
+    /// Each number of the first 16 bytes has its place, and the rest of them is not looked at.
+    #[test]
+    fn where_the_query_arrives() {
+        let query = query(10);
+        let second = Start { router: 1, receiving: 0, destination: ip(203, 0, 113, 1), ttl: 9, ..start(&query) };
+        let mut input = input(second, &yard(0));
+        assert_eq!(input[..16], [0, 1, 0, 0, 203, 0, 113, 1, 9, 0, 0, 0, 0, 0, 0, 0]);
+        let expected = "reply steps 1 blocks 1\n1 out 198.51.100.2 in 203.0.113.1 up 0.0.0.0 code 6\n";
+        assert_eq!(run(&input), expected);
+        input[8..16].fill(0xff);
+        assert_eq!(run(&input), expected);
+        input[3] = 2;
+        assert_eq!(run(&input), "4 steps 1 blocks 0\n");
+    }
+
     #[test]
     fn refusals() {
         assert_eq!(run(&[]), "21 steps 0 blocks 0\n");
-        let mut input = input(DESTINATION, &query(10), &yard(0));
+        let mut input = input(start(&query(10)), &yard(0));
         input.push(0);
         assert_eq!(run(&input), "21 steps 0 blocks 0\n");
         input.pop();

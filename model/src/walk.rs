@@ -24,6 +24,13 @@ pub struct Walked {
     pub length: u32,
 }
 
+impl Walked {
+    /// A walk that was refused: it took no step.
+    pub fn refused(end: u32) -> Walked {
+        Walked { end, steps: 0, blocks: 0, length: 0 }
+    }
+}
+
 /// Where the Query starts, and how it arrives there.
 #[derive(Clone, Copy)]
 pub struct Start<'a> {
@@ -36,7 +43,7 @@ pub struct Start<'a> {
 
 pub fn walk(yard: &[u8], times: &[u32], start: Start, output: &mut [u8]) -> Walked {
     if let Err(end) = check(yard, times, start, output.len()) {
-        return Walked { end, steps: 0, blocks: 0, length: 0 };
+        return Walked::refused(end);
     }
     let routers: Vec<&[u8]> = yard.chunks(SHEET).collect();
     let sheets: Vec<Sheet> = routers.iter().map(|bytes| Sheet::parse(bytes).expect("checked")).collect();

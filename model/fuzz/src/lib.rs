@@ -1,8 +1,8 @@
 //! The model behind the library's own interface: fuzz.c calls both and compares.
 
-use model::clock::{self, Clock, Tick};
 use model::engine::{step, Arrival};
-use model::walk::{walk, Start};
+use model::walk::Start;
+use model::{clock, entries};
 use std::slice::{from_raw_parts, from_raw_parts_mut};
 
 /// # Safety
@@ -34,36 +34,23 @@ pub unsafe extern "C" fn model_engine_step(
     )
 }
 
-/// Room is tried first, and a refusal writes nothing.
-fn hand_over(tick: Tick, out: &mut [u8]) -> u32 {
-    if out.len() < 24 {
-        return 1;
-    }
-    if tick.number == 0 {
-        for (part, number) in out.chunks_mut(8).zip([tick.clock.reading, tick.clock.issued, tick.time]) {
-            part.copy_from_slice(&number.to_be_bytes());
-        }
-    }
-    tick.number
-}
-
 /// # Safety
 /// `out` is a slice that is there.
 #[no_mangle]
 pub unsafe extern "C" fn model_clock_start(reading: u64, out: *mut u8, out_len: usize) -> u32 {
-    hand_over(Clock::start(reading), from_raw_parts_mut(out, out_len))
+    entries::clock_start(reading, from_raw_parts_mut(out, out_len))
 }
 
 /// # Safety
 /// `out` is a slice that is there.
 #[no_mangle]
 pub unsafe extern "C" fn model_clock_advance(r: u64, y: u64, reading: u64, out: *mut u8, out_len: usize) -> u32 {
-    hand_over(Clock { reading: r, issued: y }.advance(reading), from_raw_parts_mut(out, out_len))
+    entries::clock_advance(r, y, reading, from_raw_parts_mut(out, out_len))
 }
 
 #[no_mangle]
 pub extern "C" fn model_clock_unix(seconds: u64, nanoseconds: u64) -> u64 {
-    clock::unix(seconds, nanoseconds).unwrap_or(0)
+    entries::clock_unix(seconds, nanoseconds)
 }
 
 #[no_mangle]
@@ -90,17 +77,8 @@ pub unsafe extern "C" fn model_walk(
     answer: *mut u8,
     answer_len: usize,
 ) -> u32 {
-    let answer = from_raw_parts_mut(answer, answer_len);
-    if answer.len() < 16 {
-        return 1;
-    }
     let start = Start { message: from_raw_parts(message, message_len), router, receiving, destination, ttl };
     let (yard, times) = (from_raw_parts(yard, yard_len), from_raw_parts(times, times_len));
-    let walked = walk(yard, times, start, from_raw_parts_mut(output, output_len));
-    if walked.end >= 101 {
-        for (part, number) in answer.chunks_mut(4).zip([walked.end, walked.steps, walked.blocks, walked.length]) {
-            part.copy_from_slice(&number.to_be_bytes());
-        }
-    }
-    walked.end
+    let (output, answer) = (from_raw_parts_mut(output, output_len), from_raw_parts_mut(answer, answer_len));
+    entries::walk(yard, times, start, output, answer).end
 }

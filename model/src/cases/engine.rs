@@ -131,16 +131,19 @@ impl Cases {
     }
 
     fn command(&mut self, setup: &Setup, place: usize) {
-        let mut fields = vec![0];
-        fields.extend((place as u16).to_be_bytes());
-        fields.extend((setup.message.len() as u32).to_be_bytes());
-        for length in [setup.sheet.len(), setup.recent.len(), setup.output, setup.record] {
-            fields.extend((length as u16).to_be_bytes());
-        }
-        for number in [setup.destination, setup.receiving, setup.ttl, setup.time] {
-            fields.extend(number.to_be_bytes());
-        }
-        self.tape.command(STEP, &fields);
+        let fields = [
+            (2, 2, place as u64),
+            (4, 4, setup.message.len() as u64),
+            (8, 2, setup.sheet.len() as u64),
+            (10, 2, setup.recent.len() as u64),
+            (12, 2, setup.output as u64),
+            (14, 2, setup.record as u64),
+            (16, 4, setup.destination.into()),
+            (20, 4, setup.receiving.into()),
+            (24, 4, setup.ttl.into()),
+            (28, 4, setup.time.into()),
+        ];
+        self.tape.fields(STEP, &fields);
     }
 
     /// Where the last type 4 block of what was sent has its code.
@@ -405,11 +408,11 @@ impl Cases {
 }
 
 /// A fault of a step's input.
-struct Wrong {
-    name: String,
-    number: u32,
+pub struct Wrong {
+    pub name: String,
+    pub number: u32,
     /// Whether it is also tried together with others.
-    paired: bool,
+    pub paired: bool,
     how: How,
 }
 
@@ -419,7 +422,7 @@ enum How {
 }
 
 impl Wrong {
-    fn make(&self, setup: &mut Setup) {
+    pub fn make(&self, setup: &mut Setup) {
         match self.how {
             How::Message(make) => make(&mut setup.message),
             How::Setup(make) => make(setup),
@@ -428,7 +431,7 @@ impl Wrong {
 }
 
 /// An accepted Query and an accepted Request, each with the faults that it can have.
-fn bases() -> [(&'static str, Setup, Vec<Wrong>); 2] {
+pub fn bases() -> [(&'static str, Setup, Vec<Wrong>); 2] {
     let plan = accepting();
     let both = || SETUP.iter().map(wrong).collect::<Vec<Wrong>>();
     let mut query = both();

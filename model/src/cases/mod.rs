@@ -2,14 +2,18 @@
 
 mod clock;
 mod engine;
+mod entries;
 mod faults;
 mod message;
+mod places;
 mod plans;
 mod recent;
 mod route;
 mod sheet;
 mod situations;
 mod tape;
+mod text;
+mod trips;
 mod walk;
 
 use crate::{program, worked};
@@ -23,7 +27,7 @@ struct Cases {
     make: fn() -> Tape,
 }
 
-const ALL: [Cases; 8] = [
+const ALL: [Cases; 10] = [
     Cases { name: "clock", folder: "clock_cases", make: clock::tape },
     Cases { name: "sheet", folder: "sheet_cases", make: sheet::tape },
     Cases { name: "route", folder: "route_cases", make: route::tape },
@@ -31,12 +35,14 @@ const ALL: [Cases; 8] = [
     Cases { name: "recent", folder: "recent_cases", make: recent::tape },
     Cases { name: "engine", folder: "engine_cases", make: engine::tape },
     Cases { name: "walk", folder: "walk_cases", make: walk::tape },
+    Cases { name: "entries", folder: "servicebough_cases", make: entries::tape },
+    Cases { name: "text", folder: "text_cases", make: text::tape },
     Cases { name: "program", folder: "walk", make: p1 },
 ];
 
 /// P1 as the program `walk` reads and writes it.
 fn p1() -> Tape {
-    let stdin = program::input(worked::DESTINATION, &worked::query(10), &worked::yard(0));
+    let stdin = program::input(worked::start(&worked::query(10)), &worked::yard(0));
     let stdout = program::run(&stdin);
     Tape { stdin, stdout }
 }

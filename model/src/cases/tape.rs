@@ -4,6 +4,8 @@
 //! from byte 2 on, whose length is byte 1, as the first part of a line; the number of an area puts
 //! bytes 4 to 31 into that area, at the place that bytes 2 and 3 give.
 
+use crate::bytes::all_zero;
+
 /// Every command has this many bytes.
 const COMMAND: usize = 32;
 const TEXT: usize = 2;
@@ -18,6 +20,7 @@ pub struct Tape {
 }
 
 /// Bytes that a program keeps, as they stand after the commands so far.
+#[derive(Clone)]
 pub struct Area {
     number: u8,
     pub bytes: Vec<u8>,
@@ -37,10 +40,22 @@ impl Tape {
         self.stdin.extend(command);
     }
 
-    /// A command with numbers from byte 8 on, 8 bytes each, big-endian.
-    pub fn numbers(&mut self, operation: u8, fields: &[u64]) {
-        let fields: Vec<u8> = fields.iter().flat_map(|field| field.to_be_bytes()).collect();
-        self.command(operation, &[&[0; 7], fields.as_slice()].concat());
+    /// A command with big-endian numbers: the place of each, how many bytes it has, the number.
+    pub fn fields(&mut self, operation: u8, fields: &[(usize, usize, u64)]) {
+        let mut command = [0; COMMAND];
+        for (place, width, number) in fields {
+            let bytes = number.to_be_bytes();
+            let (unused, bytes) = bytes.split_at(8 - width);
+            assert!(all_zero(unused), "{number} in {width} bytes");
+            command[*place..place + width].copy_from_slice(bytes);
+        }
+        self.command(operation, &command[1..]);
+    }
+
+    /// A command with numbers from byte 8 on, 8 bytes each.
+    pub fn numbers(&mut self, operation: u8, numbers: &[u64]) {
+        let fields: Vec<_> = numbers.iter().zip((8..).step_by(8)).map(|(number, place)| (place, 8, *number)).collect();
+        self.fields(operation, &fields);
     }
 
     /// Has the program begin its next line with a text.
@@ -73,4 +88,28 @@ impl Tape {
 /// The number that the programs print for all bytes of an area.
 pub fn digest(area: &[u8]) -> u64 {
     area.iter().fold(0, |h, byte| (h * 257 + u64::from(*byte) + 1) % 4_294_967_291)
+}
+
+#[cfg(test)]
+mod tests {
+    use super::*;
+
+    #[test]
+    fn fields_at_their_places() {
+        let mut tape = Tape::default();
+        tape.fields(9, &[(2, 2, 0x0102), (28, 4, 0x0304_0506)]);
+        tape.numbers(10, &[7, u64::MAX]);
+        let mut expected = [[0; COMMAND]; 2];
+        expected[0][..4].copy_from_slice(&[9, 0, 1, 2]);
+        expected[0][28..].copy_from_slice(&[3, 4, 5, 6]);
+        expected[1][0] = 10;
+        expected[1][15..24].copy_from_slice(&[7, 255, 255, 255, 255, 255, 255, 255, 255]);
+        assert_eq!(tape.stdin, expected.concat());
+    }
+
+    #[test]
+    #[should_panic(expected = "65536 in 2 bytes")]
+    fn a_number_too_large_for_its_field() {
+        Tape::default().fields(9, &[(2, 2, 65_536)]);
+    }
 }

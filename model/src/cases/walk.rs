@@ -6,10 +6,12 @@
 
 use super::plans::interface;
 use super::tape::{digest, Area, Tape};
-use crate::build::{ip, mend_all, standard, Header, InterfaceEntry, RouteEntry, SheetPlan};
+use super::trips::{
+    header, line, line_trip, random_trips, ring, router, worked_trip, yard_of, Trip, ENDINGS, REFUSALS,
+};
+use crate::build::{ip, mend_all, standard, Header, InterfaceEntry, SheetPlan};
 use crate::rng::Rng;
-use crate::walk::{walk, Start, Walked, SHEET};
-use crate::worked;
+use crate::walk::{walk, Walked, SHEET};
 
 const TIME: u8 = 4;
 const WALK: u8 = 5;
@@ -17,9 +19,6 @@ const YARD: usize = 33 * 1024 + 512;
 const MESSAGE: usize = 1600;
 const OUTPUT: usize = 1600;
 const TIMES: usize = 40;
-const GROUP: u32 = ip(232, 1, 1, 1);
-const SOURCE: u32 = ip(203, 0, 113, 9);
-const CLIENT: u32 = ip(192, 0, 2, 50);
 
 pub fn tape() -> Tape {
     let mut cases = Cases {
@@ -47,25 +46,6 @@ pub fn tape() -> Tape {
     cases.tape
 }
 
-/// All that a walk is handed, but the times.
-#[derive(Clone)]
-struct Trip {
-    yard: Vec<u8>,
-    message: Vec<u8>,
-    times: usize,
-    output: usize,
-    router: u32,
-    receiving: u32,
-    destination: u32,
-    ttl: u32,
-}
-
-/// A refusal's number, and how a trip is made so.
-type Refusal = (u32, fn(&mut Trip));
-
-/// What a router does, the end that it leads to, the steps, and how the router is made so.
-type Ending = (&'static str, u32, u32, fn(&mut SheetPlan));
-
 struct Cases {
     tape: Tape,
     yard: Area,
@@ -75,40 +55,17 @@ struct Cases {
     ends: [u64; 256],
 }
 
-fn query(hops: u8) -> Vec<u8> {
-    header(hops).to_bytes()
-}
-
-fn header(hops: u8) -> Header {
-    Header { kind: 1, length: 20, hops, group: GROUP, source: SOURCE, client: CLIENT, id: 77, port: 40_000 }
-}
-
-fn worked_trip(upstream_of_second: u32, hops: u8) -> Trip {
-    Trip {
-        yard: worked::yard(upstream_of_second),
-        message: worked::query(hops),
-        times: 2,
-        output: 1472,
-        router: 0,
-        receiving: 0,
-        destination: worked::DESTINATION,
-        ttl: 0,
-    }
-}
-
 impl Cases {
     fn set_time(&mut self, number: u32, time: u32) {
-        let fields = [&[0][..], &(number as u16).to_be_bytes(), &time.to_be_bytes()].concat();
-        self.tape.command(TIME, &fields);
+        self.tape.fields(TIME, &[(2, 2, number.into()), (4, 4, time.into())]);
         self.times.push(time);
     }
 
     fn walk(&mut self, label: &str, trip: &Trip) -> Walked {
         self.tape.set(&mut self.yard, &trip.yard);
         self.tape.set(&mut self.message, &trip.message);
-        let Trip { router, receiving, destination, ttl, .. } = *trip;
-        let start = Start { message: &trip.message, router, receiving, destination, ttl };
-        let walked = walk(&trip.yard, &self.times[..trip.times], start, &mut self.output.bytes[..trip.output]);
+        let output = &mut self.output.bytes[..trip.output];
+        let walked = walk(&trip.yard, &self.times[..trip.times], trip.start(), output);
         self.ends[walked.end as usize] += 1;
         self.tape.label(label);
         self.command(trip);
@@ -118,15 +75,17 @@ impl Cases {
     }
 
     fn command(&mut self, trip: &Trip) {
-        let mut fields = vec![0];
-        fields.extend((trip.times as u16).to_be_bytes());
-        fields.extend((trip.yard.len() as u32).to_be_bytes());
-        fields.extend((trip.message.len() as u16).to_be_bytes());
-        fields.extend((trip.output as u16).to_be_bytes());
-        for number in [trip.router, trip.receiving, trip.destination, trip.ttl] {
-            fields.extend(number.to_be_bytes());
-        }
-        self.tape.command(WALK, &fields);
+        let fields = [
+            (2, 2, trip.times as u64),
+            (4, 4, trip.yard.len() as u64),
+            (8, 2, trip.message.len() as u64),
+            (10, 2, trip.output as u64),
+            (12, 4, trip.router.into()),
+            (16, 4, trip.receiving.into()),
+            (20, 4, trip.destination.into()),
+            (24, 4, trip.ttl.into()),
+        ];
+        self.tape.fields(WALK, &fields);
     }
 
     fn expect(&mut self, label: &str, trip: &Trip, end: u32, steps: u32) {
@@ -194,15 +153,8 @@ impl Cases {
 
     /// Each two refusals together: the earlier is answered.
     fn refusals_in_pairs(&mut self) {
-        let faults: [Refusal; 5] = [
-            (1, |trip| trip.output = 1471),
-            (21, |trip| trip.yard[1024 + 700] = 1),
-            (22, |trip| trip.times = 1),
-            (23, |trip| trip.router = 2),
-            (24, |trip| trip.message[0] = 2),
-        ];
-        for (place, first) in faults.iter().enumerate() {
-            for second in &faults[place..] {
+        for (place, first) in REFUSALS.iter().enumerate() {
+            for second in &REFUSALS[place..] {
                 let mut trip = worked_trip(0, 10);
                 (second.1)(&mut trip);
                 (first.1)(&mut trip);
@@ -265,36 +217,12 @@ impl Cases {
         }
     }
 
-    /// Each way in which the middle router of three may end a walk.
+    /// Each way in which the first or the middle router of three may end a walk.
     fn ends(&mut self) {
-        let changes: [Ending; 12] = [
-            ("to a group", 102, 2, |plan| plan.routes[0].upstream = u32::MAX),
-            ("to nobody", 103, 2, |plan| plan.routes[0].upstream = ip(198, 18, 0, 1)),
-            ("no upstream", 101, 2, |plan| plan.routes[0].upstream = 0),
-            ("unknown incoming", 101, 2, |plan| plan.routes[0] = plan.routes[0].by(u16::MAX, 0, 1)),
-            ("prohibited", 101, 2, |plan| plan.prohibited = true),
-            ("no route", 101, 2, |plan| plan.routes[0].group = GROUP + 1),
-            ("a kind 3 route", 101, 3, |plan| {
-                plan.routes[0] = RouteEntry::source_only(0, 0).by(1, plan.routes[0].upstream, 1)
-            }),
-            ("a kind 2 route", 101, 3, |plan| {
-                plan.routes[0] = RouteEntry::group(GROUP).by(1, plan.routes[0].upstream, 1)
-            }),
-            ("RP", 101, 2, |plan| {
-                plan.routes[0] = RouteEntry { flags: 1, ..RouteEntry::group(GROUP).by(1, plan.routes[0].upstream, 1) }
-            }),
-            ("not multicast", 101, 3, |plan| plan.interfaces[0].flags = 0),
-            ("pruned", 101, 3, |plan| plan.routes[0].pruned = 1),
-            ("prune sent", 101, 3, |plan| plan.routes[0].flags = 2),
-        ];
-        for (name, end, steps, change) in changes {
+        for ending in &ENDINGS {
             for place in [0, 1] {
-                let mut plans: Vec<SheetPlan> = (0..3).map(|number| router(number, next(number, 3))).collect();
-                change(&mut plans[place]);
-                let yard = plans.iter().flat_map(SheetPlan::to_bytes).collect();
-                let trip = Trip { yard, ..line_trip(3, 0, 9) };
-                let steps = if steps == 3 { 3 } else { place as u32 + 1 };
-                self.expect(&format!("router {place}: {name}"), &trip, end, steps);
+                let label = format!("router {place}: {}", ending.name);
+                self.expect(&label, &ending.trip(place), ending.end, ending.steps(place));
             }
         }
     }
@@ -309,7 +237,7 @@ impl Cases {
                 plans[*copy].interfaces.push(InterfaceEntry { threshold: 7, ..InterfaceEntry::new(wanted, 24) });
                 plans[*copy].interfaces.push(InterfaceEntry { threshold: 8, ..InterfaceEntry::new(wanted, 30) });
             }
-            let yard: Vec<u8> = plans.iter().flat_map(SheetPlan::to_bytes).collect();
+            let yard = yard_of(&plans);
             for hops in [2, 4, 255] {
                 self.walk(
                     &format!("address on {copies:?}, hops {hops}"),
@@ -322,26 +250,10 @@ impl Cases {
         self.expect("42 interfaces, no route", &Trip { yard, ..line_trip(2, 0, 9) }, 101, 2);
     }
 
-    /// Routers with few addresses among them, so that traces run into each other.
     fn random(&mut self, rng: &mut Rng) {
         for number in 0..100 {
-            let routers = 1 + if rng.one_in(8) { rng.below(32) } else { rng.below(7) };
-            let plans: Vec<SheetPlan> = (0..routers).map(|_| random_router(rng)).collect();
-            let yard: Vec<u8> = plans.iter().flat_map(SheetPlan::to_bytes).collect();
-            for trial in 0..5 {
-                let router = rng.below(routers) as usize;
-                let receiving = rng.below(plans[router].interfaces.len() as u64) as usize;
-                let trip = Trip {
-                    yard: yard.clone(),
-                    message: random_query(rng),
-                    times: routers as usize,
-                    output: 1472,
-                    router: router as u32,
-                    receiving: receiving as u32,
-                    destination: plans[router].interfaces[receiving].address,
-                    ttl: rng.below(300) as u32,
-                };
-                self.walk(&format!("random {number} {trial}"), &trip);
+            for (trial, trip) in random_trips(rng, 5).iter().enumerate() {
+                self.walk(&format!("random {number} {trial}"), trip);
             }
         }
     }
@@ -352,93 +264,4 @@ impl Cases {
         }
         assert!([1, 21, 22, 23, 24, 101, 102, 103].into_iter().all(|end| self.ends[end] > 0));
     }
-}
-
-fn receiving_address(number: usize) -> u32 {
-    ip(10, 20, number as u8, 1)
-}
-
-/// A router that forwards to interface 0 what comes from its upstream by interface 1.
-fn router(number: usize, upstream: u32) -> SheetPlan {
-    let below = InterfaceEntry {
-        threshold: number as u8,
-        output: number as u64,
-        ..InterfaceEntry::new(receiving_address(number), 24)
-    };
-    let above = InterfaceEntry { input: 100 + number as u64, ..InterfaceEntry::new(ip(10, 21, number as u8, 1), 24) };
-    let route = RouteEntry::source_and_group(ip(203, 0, 113, 0), 24, GROUP).by(1, upstream, 1);
-    SheetPlan {
-        prohibited: false,
-        interfaces: vec![below, above],
-        routes: vec![RouteEntry { packets: 1000 + number as u64, ..route }],
-    }
-}
-
-/// The upstream of a router of a line, 0 at its end.
-fn next(number: usize, routers: usize) -> u32 {
-    if number + 1 == routers {
-        0
-    } else {
-        receiving_address(number + 1)
-    }
-}
-
-fn line(routers: usize, last_upstream: u32) -> Vec<u8> {
-    let upstream = |number| if number + 1 == routers { last_upstream } else { next(number, routers) };
-    (0..routers).flat_map(|number| router(number, upstream(number)).to_bytes()).collect()
-}
-
-fn ring(routers: usize) -> Vec<u8> {
-    line(routers, receiving_address(0))
-}
-
-fn line_trip(routers: usize, start: usize, hops: u8) -> Trip {
-    Trip {
-        yard: line(routers, 0),
-        message: query(hops),
-        times: routers,
-        output: 1472,
-        router: start as u32,
-        receiving: 0,
-        destination: receiving_address(start),
-        ttl: 64,
-    }
-}
-
-fn random_address(rng: &mut Rng) -> u32 {
-    ip(10, 30, rng.below(3) as u8, 1 + rng.below(4) as u8)
-}
-
-fn random_router(rng: &mut Rng) -> SheetPlan {
-    let count = 1 + rng.below(4);
-    let interfaces = (0..count).map(|_| {
-        let flags = if rng.one_in(6) { rng.below(4) as u8 } else { 1 };
-        InterfaceEntry { flags, ..InterfaceEntry::new(random_address(rng), 24) }
-    });
-    let interfaces: Vec<InterfaceEntry> = interfaces.collect();
-    let routes = 1 + rng.below(3);
-    let routes = (0..routes).map(|_| random_way(rng, count));
-    SheetPlan { prohibited: false, routes: routes.collect(), interfaces }
-}
-
-fn random_way(rng: &mut Rng, interfaces: u64) -> RouteEntry {
-    let entry = match rng.below(6) {
-        0 => RouteEntry { flags: rng.below(2) as u8, ..RouteEntry::group(GROUP) },
-        1 | 2 => RouteEntry::source_only(0, 0),
-        _ => RouteEntry::source_and_group(ip(203, 0, 113, 0), 24, GROUP),
-    };
-    let upstream = match rng.below(12) {
-        0 => 0,
-        1 => u32::MAX,
-        2 => ip(198, 18, 0, 1),
-        _ => random_address(rng),
-    };
-    entry.by(rng.below(interfaces) as u16, upstream, rng.draw() & ((1 << interfaces) - 1))
-}
-
-fn random_query(rng: &mut Rng) -> Vec<u8> {
-    let source = if rng.one_in(6) { u32::MAX } else { SOURCE };
-    let group = if source == SOURCE && rng.one_in(6) { u32::MAX } else { GROUP };
-    let hops = rng.pick(&[1, 2, 4, 9, 40, 255]);
-    Header { source, group, client: ip(10, 30, rng.below(3) as u8, 200), ..header(hops) }.to_bytes()
 }

@@ -12,11 +12,11 @@ use compare::cases::{Router, Step};
 use compare::entries;
 use compare::lent::{Guard, Lent};
 use compare::yards::{self, Walk};
-use model::clock::{self, Clock, Tick, LIMIT};
+use model::clock::{self, LIMIT};
 use model::engine::{self, SENT_ON};
 use model::message::{blocks, BlockType};
 use model::rng::Rng;
-use model::walk::{Start, Walked};
+use model::walk::Start;
 use std::collections::BTreeMap;
 use std::path::Path;
 use std::process::exit;
@@ -56,19 +56,6 @@ fn time(rng: &mut Rng) -> u64 {
     }
 }
 
-/// What the model's answer would leave in lent bytes: 1 for room is tried first, and a refusal writes nothing.
-fn hand_over(tick: Tick, out: &mut [u8]) -> u32 {
-    if out.len() < 24 {
-        return 1;
-    }
-    if tick.number == 0 {
-        for (part, number) in out.chunks_mut(8).zip([tick.clock.reading, tick.clock.issued, tick.time]) {
-            part.copy_from_slice(&number.to_be_bytes());
-        }
-    }
-    tick.number
-}
-
 fn clock_case(rng: &mut Rng, guard: Guard, met: &mut Met) {
     let (r, y, reading) = (time(rng), time(rng), time(rng));
     let (r, y) = if rng.one_in(2) { (r.min(y), r.max(y)) } else { (r, y) };
@@ -80,8 +67,10 @@ fn clock_case(rng: &mut Rng, guard: Guard, met: &mut Met) {
         true => entries::clock_start(reading, ours.slice()),
         false => entries::clock_advance(r, y, reading, ours.slice()),
     };
-    let tick = if start { Clock::start(reading) } else { Clock { reading: r, issued: y }.advance(reading) };
-    let expected = hand_over(tick, theirs.slice());
+    let expected = match start {
+        true => model::entries::clock_start(reading, theirs.slice()),
+        false => model::entries::clock_advance(r, y, reading, theirs.slice()),
+    };
     if number != expected || ours != theirs {
         differs(&format!("start {start} r {r} y {y} reading {reading} room {length}: {number}, model {expected}"));
     }
@@ -91,7 +80,7 @@ fn clock_case(rng: &mut Rng, guard: Guard, met: &mut Met) {
     let seconds = rng.pick(&[0, 1, 2_085_978_494, 2_085_978_495, 2_085_978_496, any[0], any[0] % 2_085_978_496]);
     let nanoseconds = rng.pick(&[0, 999_999_999, 1_000_000_000, any[1], any[1] % 1_000_000_000]);
     let units = entries::clock_unix(seconds, nanoseconds);
-    if units != clock::unix(seconds, nanoseconds).unwrap_or(0) {
+    if units != model::entries::clock_unix(seconds, nanoseconds) {
         differs(&format!("unix {seconds} {nanoseconds}: {units}"));
     }
     met.count("unix refused", u32::from(units == 0));
@@ -162,20 +151,6 @@ fn engine_cases(cases: u64, rng: &mut Rng, guard: Guard, met: &mut Met) {
 
 // ---- walk -----------------------------------------------------------------------------------------
 
-/// What the model's walk would leave in lent bytes: an answer under 16 bytes is 1, and only a message sent is told of.
-fn model_walk(walk: &Walk, start: Start, output: &mut [u8], answer: &mut [u8]) -> Walked {
-    if answer.len() < 16 {
-        return Walked { end: 1, steps: 0, blocks: 0, length: 0 };
-    }
-    let walked = model::walk::walk(&walk.yard, &walk.times, start, output);
-    if walked.end >= 101 {
-        for (part, number) in answer.chunks_mut(4).zip([walked.end, walked.steps, walked.blocks, walked.length]) {
-            part.copy_from_slice(&number.to_be_bytes());
-        }
-    }
-    walked
-}
-
 fn walk_case(walk: &Walk, rng: &mut Rng, guard: Guard, met: &mut Met) {
     let mut yard = Lent::of(&walk.yard, guard, rng);
     let mut message = Lent::of(&walk.message, guard, rng);
@@ -193,7 +168,8 @@ fn walk_case(walk: &Walk, rng: &mut Rng, guard: Guard, met: &mut Met) {
     let [output, answer] = &mut ours;
     let number = entries::walk(yard.slice(), &times, start(message.slice()), output.slice(), answer.slice());
     let [output, answer] = &mut theirs;
-    let walked = model_walk(walk, start(&walk.message), output.slice(), answer.slice());
+    let start = start(&walk.message);
+    let walked = model::entries::walk(&walk.yard, &walk.times, start, output.slice(), answer.slice());
     if number != walked.end || ours != theirs || read != [yard, message] || *times != walk.times[..] {
         differs(&format!("{walk:?}: {number}, model {walked:?}"));
     }
