@@ -36,6 +36,14 @@ pub fn put(area: &mut [u8], command: &[u8; 32]) {
     }
 }
 
+// Sets the time of the router that bytes 2 and 3 name to what bytes 4 to 7 give.
+pub fn set_time(times: &mut [u32], command: &[u8; 32]) {
+    let i = wire::be16(command, 2) as usize;
+    if i < times.len() {
+        times[i] = wire::be32(command, 4);
+    }
+}
+
 // Writes the text that a command holds from byte 2 on; byte 1 is its length.
 pub fn label(command: &[u8; 32]) {
     let end = 2 + wide(command[1]);

@@ -65,14 +65,6 @@ fn call(
     }
 }
 
-// Sets a router's time.
-fn set_time(command: &[u8; 32], times: &mut [u32]) {
-    let i = tape::number16(command, 2) as usize;
-    if i < times.len() {
-        times[i] = tape::number32(command, 4);
-    }
-}
-
 // Runs the next command, and answers whether there may be more.
 fn run(
     yard: &mut [u8],
@@ -95,7 +87,7 @@ fn run(
     } else if operation == 3 {
         tape::put(output, &command);
     } else if operation == 4 {
-        set_time(&command, times);
+        tape::set_time(times, &command);
     } else {
         call(&command, yard, times, message, output, ends);
     }
