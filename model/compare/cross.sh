@@ -1,7 +1,10 @@
 # shellcheck shell=sh
 # Sourced by run.sh here and in model/fuzz: what cargo needs to build for x86-64, as the archive is, and to run that here.
-# On x86-64 it only looks for cargo. On Arm Debian's cross compiler links and Debian's emulator runs: the kit's emulator dies where
-# a program reads /proc/self/maps, as Rust's library and AddressSanitizer do.
+# On x86-64 it only looks for cargo. On Arm Debian's cross compiler links and Debian's emulator runs: the kit's emulator (8.2.2) dies
+# where a program reads /proc/self/maps, as every Rust program does. Leaves `emulate`, the words before a program, and `built`, the
+# folder of cargo's that it lies in.
+# shellcheck disable=SC2034
+emulate='' built=release
 
 fail() {
     printf '%s: %s\n' "$0" "$1" >&2
@@ -25,6 +28,7 @@ dpkg --add-architecture amd64 and Debian's packages rustc-web, cargo-web and lib
         # loader and libraries by name, so that they are of one version
         libraries=/usr/x86_64-linux-gnu/lib
         emulate="qemu-x86_64 $libraries/ld-linux-x86-64.so.2 --library-path $libraries"
+        built=x86_64-unknown-linux-gnu/release
         export CARGO_BUILD_TARGET=x86_64-unknown-linux-gnu
         export CARGO_TARGET_X86_64_UNKNOWN_LINUX_GNU_LINKER=x86_64-linux-gnu-gcc
         export CARGO_TARGET_X86_64_UNKNOWN_LINUX_GNU_RUNNER="$emulate"
