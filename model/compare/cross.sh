@@ -23,7 +23,7 @@ case $(uname -m) in
         [ -d "${library:-}" ] || fail "Rust's library for x86-64 is missing: rustup target add x86_64-unknown-linux-gnu brings it, or \
 dpkg --add-architecture amd64 and Debian's packages rustc-web, cargo-web and libstd-rust-web-dev:amd64"
         PATH=$place:$PATH
-        make -s compiler || exit 1 # make has said why
+        make -s compiler CC=x86_64-linux-gnu-gcc LDFLAGS= || exit 1 # make has said why
         command -v qemu-x86_64 > /dev/null || fail "qemu-x86_64 is missing: Debian's package qemu-user has it"
         # loader and libraries by name, so that they are of one version
         libraries=/usr/x86_64-linux-gnu/lib
