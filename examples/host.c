@@ -181,8 +181,8 @@ static uint32_t interface_number(const struct router *router, unsigned index, ui
 static void join_all_routers(int s, const struct router *router)
 {
     for (size_t i = 0; i < router->count; i++) {
-        struct ip_mreqn request = {.imr_ifindex = (int)router->interfaces[i].index};
-        request.imr_multiaddr.s_addr = htonl(BOUGH_ALL_ROUTERS);
+        struct ip_mreq request = {.imr_multiaddr.s_addr = htonl(BOUGH_ALL_ROUTERS),
+                                  .imr_interface.s_addr = htonl(router->interfaces[i].address)};
         if (router->interfaces[i].multicast && setsockopt(s, IPPROTO_IP, IP_ADD_MEMBERSHIP, &request, sizeof request) != 0
             && errno != EADDRINUSE) {
             char text[INET_ADDRSTRLEN];

@@ -77,7 +77,8 @@ static bool own_address(struct query *query)
     return ok;
 }
 
-/* Opens the client's socket, sends the Query from it and keeps the Query in `sent`. */
+/* Opens the client's socket, sends the Query from it and keeps the Query in `sent`. To 224.0.0.2 Linux sends by the interface
+ * whose address the socket is bound to. */
 static int send_query(const struct query *query, uint8_t sent[BOUGH_HEADER_SIZE])
 {
     struct sockaddr_in own = {.sin_family = AF_INET}, to = {.sin_family = AF_INET, .sin_port = htons(query->port)};
@@ -85,8 +86,7 @@ static int send_query(const struct query *query, uint8_t sent[BOUGH_HEADER_SIZE]
     int s = socket(AF_INET, SOCK_DGRAM | SOCK_CLOEXEC, 0);
     own.sin_addr.s_addr = htonl(query->client);
     to.sin_addr.s_addr = htonl(query->router);
-    if (s < 0 || bind(s, (struct sockaddr *)&own, sizeof own) != 0 || getsockname(s, (struct sockaddr *)&own, &length) != 0
-        || setsockopt(s, IPPROTO_IP, IP_MULTICAST_IF, &own.sin_addr, sizeof own.sin_addr) != 0)
+    if (s < 0 || bind(s, (struct sockaddr *)&own, sizeof own) != 0 || getsockname(s, (struct sockaddr *)&own, &length) != 0)
         return -1;
     memset(sent, 0, BOUGH_HEADER_SIZE);
     sent[0] = BOUGH_TYPE_QUERY;

@@ -1,4 +1,5 @@
-/* Calls each entry of the installed library once, with the worked examples of the clock and of one router. */
+/* Calls each entry of the installed library with another value in every place, and compares all that it leaves byte for byte: if two
+ * arguments of one type changed places, in the header or in the library, another answer would come out. */
 #include <servicebough.h>
 #include <stdio.h>
 #include <string.h>
@@ -13,104 +14,197 @@ static void expect(int ok, const char *what)
     }
 }
 
-static uint64_t be(const uint8_t *s, int n)
+/* Writes a number big-endian, and gives the place behind it. */
+static uint8_t *put(uint8_t *at, uint64_t number, int bytes)
 {
-    uint64_t v = 0;
-    for (int i = 0; i < n; i++)
-        v = v << 8 | s[i];
-    return v;
+    for (int i = bytes; i > 0; i--, number >>= 8)
+        at[i - 1] = (uint8_t)number;
+    return at + bytes;
+}
+
+/* ---- clock ---------------------------------------------------------------------------------------- */
+
+static int holds(const uint8_t *out, uint64_t r, uint64_t y)
+{
+    uint8_t due[BOUGH_CLOCK_SIZE];
+    put(put(put(due, r, 8), y, 8), y, 8);
+    return memcmp(out, due, sizeof due) == 0;
 }
 
 static void clock_entries(void)
 {
     static const uint64_t readings[] = {1010, 1000, 1004, 1016, 1024}, issued[] = {1010, 1010, 1012, 1018, 1024};
     uint8_t out[BOUGH_CLOCK_SIZE] = {0};
-    expect(bough_clock_start(1000, out, sizeof out - 1) == BOUGH_CLOCK_ROOM, "23 bytes are too few");
+    uint64_t r = 1000, y = 1000;
+    expect(bough_clock_start(r, out, sizeof out - 1) == BOUGH_CLOCK_ROOM, "23 bytes are too few");
     expect(bough_clock_start(BOUGH_CLOCK_LAST + 1, out, sizeof out) == BOUGH_CLOCK_READING, "2^48 is refused");
-    expect(be(out, 8) == 0, "a refusal writes nothing");
-    expect(bough_clock_start(1000, out, sizeof out) == BOUGH_CLOCK_OK && be(out + 16, 8) == 1000, "a start issues its reading");
-    for (int i = 0; i < 5; i++) {
-        expect(bough_clock_advance(be(out, 8), be(out + 8, 8), readings[i], out, sizeof out) == BOUGH_CLOCK_OK, "an advance");
-        expect(be(out + 16, 8) == issued[i], "the time issued");
+    expect(holds(out, 0, 0), "a refusal writes nothing");
+    expect(bough_clock_start(r, out, sizeof out) == BOUGH_CLOCK_OK && holds(out, r, y), "a start issues its reading");
+    for (int i = 0; i < 5; i++) { /* at the third, r, y and reading are three numbers */
+        expect(bough_clock_advance(r, y, readings[i], out, sizeof out) == BOUGH_CLOCK_OK && holds(out, readings[i], issued[i]),
+               "an advance");
+        r = readings[i];
+        y = issued[i];
     }
-    expect(bough_clock_advance(2, 1, 3, out, sizeof out) == BOUGH_CLOCK_STATE, "y below r is refused");
-    expect(bough_clock_arrival(bough_clock_unix(0, 0)) == 2122317824, "the arrival time of UNIX 0");
-    expect(bough_clock_unix(0, 999999999) - bough_clock_unix(0, 0) == 65535, "parts of a second");
+    expect(bough_clock_advance(2, 1, 3, out, sizeof out) == BOUGH_CLOCK_STATE && holds(out, r, y), "y below r is refused");
+    expect(bough_clock_unix(1, 500000000) == (UINT64_C(2208988801) << 16 | 0x8000), "a second and a half of UNIX time");
     expect(bough_clock_unix(0, 1000000000) == 0, "a whole second of nanoseconds is refused");
+    expect(bough_clock_arrival(UINT64_C(2208988800) << 16) == 2122317824, "the arrival time of UNIX 0");
 }
+
+/* ---- what is lent to a step or a walk ------------------------------------------------------------- */
+
+/* Each part has the most room that any needs, so that one lent for another is written within it, and seen. */
+struct lent {
+    uint8_t message[BOUGH_ROOM], tables[3 * BOUGH_YARD_SHEET], recent[BOUGH_ROOM], output[BOUGH_ROOM], record[BOUGH_ROOM];
+};
+
+/* A router with two interfaces: 0, towards the source, 10.0.FAR.1; 1, towards the receiver, 10.0.NEAR.2. */
+struct router {
+    uint8_t near, far;
+    uint32_t upstream;
+};
+#define TOWARDS_SOURCE(far) (0x0A000001u | (uint32_t)(far) << 8)
+#define TOWARDS_RECEIVER(near) (0x0A000002u | (uint32_t)(near) << 8)
+#define GROUP 0xE8010101u /* 232.1.1.1 */
+#define CLIENT 0x0A000932u /* 10.0.9.50 */
+#define CLIENT_PORT 40000
+#define ID 7
 
 static void check(uint8_t *block)
 {
-    uint64_t sum = 0;
+    uint32_t sum = 0;
     for (int at = 0; at < BOUGH_SHEET_CHECK; at += 2)
-        sum += be(block + at, 2);
-    sum = 0xFFFF - (sum % 0xFFFF == 0 && sum != 0 ? 0xFFFF : sum % 0xFFFF);
-    block[BOUGH_SHEET_CHECK] = (uint8_t)(sum >> 8);
-    block[BOUGH_SHEET_CHECK + 1] = (uint8_t)sum;
+        sum += (uint32_t)(block[at] << 8 | block[at + 1]);
+    sum = (sum & 0xFFFF) + (sum >> 16);
+    put(block + BOUGH_SHEET_CHECK, 0xFFFF - (sum & 0xFFFF) - (sum >> 16), 2);
+}
+
+/* An interface: its TTL threshold is `own`, its counts the next two numbers. */
+static void interface(uint8_t *at, uint32_t address, uint8_t own)
+{
+    put(at, address, 4);
+    at[4] = 24;
+    at[5] = BOUGH_INTERFACE_MULTICAST;
+    at[6] = own;
+    put(at + 8, own + 1u, 8);
+    put(at + 16, own + 2u, 8);
+}
+
+static void sheet(uint8_t *at, struct router router)
+{
+    uint8_t *routes = at + BOUGH_SHEET_BLOCK, *route = routes + BOUGH_SHEET_ENTRIES;
+    memset(at, 0, BOUGH_YARD_SHEET);
+    at[0] = BOUGH_SHEET_INTERFACES;
+    at[1] = 2;
+    interface(at + BOUGH_SHEET_ENTRIES, TOWARDS_SOURCE(router.far), 11);
+    interface(at + BOUGH_SHEET_ENTRIES + BOUGH_INTERFACE_SIZE, TOWARDS_RECEIVER(router.near), 21);
+    routes[0] = BOUGH_SHEET_ROUTES;
+    routes[1] = routes[3] = 1;
+    route[0] = BOUGH_ROUTE_GROUP;
+    put(route + 8, GROUP, 4);
+    put(route + 12, router.upstream, 4);
+    put(route + 18, 31, 2); /* routing protocol, multicast routing protocol, packets */
+    put(route + 20, 32, 2);
+    put(route + 24, 33, 8);
+    put(route + 32, 1 << 1, 8); /* would forward to interface 1 */
+    check(at);
+    check(routes);
+}
+
+static uint8_t *header(uint8_t *at, uint8_t type, uint8_t hops)
+{
+    at = put(put(put(at, type, 1), BOUGH_HEADER_SIZE, 2), hops, 1);
+    return put(put(put(put(put(at, GROUP, 4), 0xCB007109, 4), CLIENT, 4), ID, 2), CLIENT_PORT, 2);
+}
+
+/* The block due from such a router, of a message that came in on interface 1. */
+static uint8_t *block(uint8_t *at, struct router router, uint32_t time)
+{
+    at = put(put(put(at, BOUGH_TYPE_STANDARD, 1), BOUGH_STANDARD_SIZE, 2), 0, 1);
+    at = put(put(put(at, time, 4), TOWARDS_SOURCE(router.far), 4), TOWARDS_RECEIVER(router.near), 4);
+    at = put(put(put(put(at, router.upstream, 4), 12, 8), 23, 8), 33, 8);
+    return put(put(put(put(at, 31, 2), 32, 2), 21 << 8, 2), 0xFF00 | BOUGH_CODE_NO_ERROR, 2);
+}
+
+static const struct router first = {.near = 9, .far = 8, .upstream = TOWARDS_RECEIVER(8)},
+                           second = {.near = 8, .far = 7, .upstream = TOWARDS_RECEIVER(7)},
+                           last = {.near = 7, .far = 6, .upstream = 0};
+
+/* ---- engine --------------------------------------------------------------------------------------- */
+
+static uint32_t step(struct lent *l, size_t length, uint32_t destination, uint32_t ttl, uint32_t time)
+{
+    return bough_engine_step(l->message, length, destination, 1, ttl, time, l->tables, BOUGH_YARD_SHEET, l->recent,
+                             BOUGH_RECENT_SIZE, l->output, BOUGH_ROOM, l->record, BOUGH_RECORD_SIZE);
+}
+
+static void record(uint8_t *at, uint16_t length, uint32_t destination, uint16_t port, uint16_t number, uint32_t source)
+{
+    put(put(put(put(put(put(at, length, 2), destination, 4), port, 2), number, 2), source, 4), 0, 2);
 }
 
 static void engine_entry(void)
 {
-    static const uint8_t interface[] = {192, 0, 2, 1, 24, BOUGH_INTERFACE_MULTICAST};
-    static const uint8_t query[] = {BOUGH_TYPE_QUERY, 0, 20, 10, 232, 1, 1, 1, 203, 0, 113, 9, 192, 0, 2, 50, 0, 7, 156, 64};
-    static const uint8_t reply[] = {0, 72, 192, 0, 2, 50, 156, 64, 255, 255, 192, 0, 2, 1, 0, 0};
-    uint8_t sheet[BOUGH_SHEET_BLOCK] = {BOUGH_SHEET_INTERFACES, 1}, recent[BOUGH_RECENT_SIZE] = {0};
-    uint8_t output[BOUGH_ROOM], record[BOUGH_RECORD_SIZE];
-    memcpy(sheet + BOUGH_SHEET_ENTRIES, interface, sizeof interface);
-    check(sheet);
-    for (int turn = 0; turn < 2; turn++) {
-        uint32_t n = bough_engine_step(query, sizeof query, 0xC0000201, 0, 64, 5, sheet, sizeof sheet, recent, sizeof recent,
-                                       output, sizeof output, record, sizeof record);
-        expect(n == (turn == 0 ? BOUGH_REPLY : BOUGH_DROP_SEEN), "a Query is answered once");
-    }
-    expect(memcmp(record, reply, sizeof reply) == 0, "the record of a Reply");
-    expect(output[0] == BOUGH_TYPE_REPLY && output[BOUGH_HEADER_SIZE + BOUGH_BLOCK_CODE] == BOUGH_CODE_WRONG_LAST_HOP, "the Reply");
-    sheet[100] = 1;
-    expect(bough_engine_step(query, sizeof query, 0xC0000201, 0, 64, 5, sheet, sizeof sheet, recent, sizeof recent, output,
-                             sizeof output, record, sizeof record) == BOUGH_DROP_SHEET, "a damaged sheet");
+    static struct lent ours, due;
+    memset(&ours, 0xEE, sizeof ours);
+    memset(ours.recent, 0, BOUGH_RECENT_SIZE);
+    header(ours.message, BOUGH_TYPE_QUERY, 10);
+    sheet(ours.tables, first);
+    due = ours;
+    put(put(put(due.recent, 0x01010000, 4), CLIENT, 4), ID, 2);
+    block(header(due.output, BOUGH_TYPE_REQUEST, 10), first, 5);
+    record(due.record, 72, first.upstream, BOUGH_PORT, 0, TOWARDS_SOURCE(8));
+    expect(step(&ours, BOUGH_HEADER_SIZE, TOWARDS_RECEIVER(9), 64, 5) == BOUGH_SENT_ON, "a Query is sent on");
+    expect(memcmp(&ours, &due, sizeof due) == 0, "the Request, its record and the recent list");
+    expect(step(&ours, BOUGH_HEADER_SIZE, TOWARDS_RECEIVER(9), 64, 5) == BOUGH_DROP_SEEN, "a Query is answered once");
+
+    /* a TTL tells only of a Request: the one above, at the last router */
+    memcpy(ours.message, due.output, 72);
+    sheet(ours.tables, last);
+    due = ours;
+    expect(step(&ours, 72, TOWARDS_RECEIVER(7), 254, 6) == BOUGH_DROP_NEAR, "a Request from afar");
+    ours.tables[100]++;
+    expect(step(&ours, 72, TOWARDS_RECEIVER(7), 255, 6) == BOUGH_DROP_SHEET, "a damaged sheet");
+    ours.tables[100]--;
+    expect(memcmp(&ours, &due, sizeof due) == 0, "a drop writes nothing");
+    block(block(header(due.output, BOUGH_TYPE_REPLY, 10), first, 5), last, 6);
+    record(due.record, 124, CLIENT, CLIENT_PORT, BOUGH_ANY_INTERFACE, TOWARDS_RECEIVER(7));
+    expect(step(&ours, 72, TOWARDS_RECEIVER(7), 255, 6) == BOUGH_REPLY, "a Request is replied to");
+    expect(memcmp(&ours, &due, sizeof due) == 0, "the Reply and its record");
 }
 
-/* One router of a yard, whose one route goes on to `upstream`. */
-static void router(uint8_t *sheet, uint8_t near, uint8_t far, const uint8_t upstream[4])
+/* ---- walk ----------------------------------------------------------------------------------------- */
+
+static uint32_t walk(struct lent *l, size_t count)
 {
-    const uint8_t interfaces[2 * BOUGH_INTERFACE_SIZE] = {
-        10, 0, near, 1, 24, BOUGH_INTERFACE_MULTICAST, [BOUGH_INTERFACE_SIZE] = 10, 0, far, 2, 24, BOUGH_INTERFACE_MULTICAST,
-    };
-    uint8_t route[BOUGH_ROUTE_SIZE] = {BOUGH_ROUTE_GROUP, [8] = 232, 1, 1, 1, [17] = 1, [39] = 1};
-    memcpy(route + 12, upstream, 4);
-    memset(sheet, 0, BOUGH_YARD_SHEET);
-    sheet[0] = BOUGH_SHEET_INTERFACES;
-    sheet[1] = 2;
-    memcpy(sheet + BOUGH_SHEET_ENTRIES, interfaces, sizeof interfaces);
-    sheet[512] = BOUGH_SHEET_ROUTES;
-    sheet[513] = 1;
-    sheet[515] = 1;
-    memcpy(sheet + 512 + BOUGH_SHEET_ENTRIES, route, sizeof route);
-    check(sheet);
-    check(sheet + BOUGH_SHEET_BLOCK);
+    static const uint32_t times[] = {17, 18, 19};
+    return bough_walk(l->tables, sizeof l->tables, times, count, l->message, BOUGH_HEADER_SIZE, 2, 1, TOWARDS_RECEIVER(9), 5,
+                      l->output, BOUGH_ROOM, l->record, BOUGH_RECORD_SIZE);
 }
 
-/* Two routers: the first sends on to the second, where the walk ends; then the second sends back to the first. */
+/* From router 2 to router 0 and on to router 1, where the walk ends; then that one sends back to the first. */
 static void walk_entry(void)
 {
-    static const uint8_t second[] = {10, 0, 2, 1}, first[] = {10, 0, 1, 1}, none[] = {0, 0, 0, 0};
-    static const uint8_t query[] = {BOUGH_TYPE_QUERY, 0, 20, 255, 232, 1, 1, 1, 203, 0, 113, 9, 10, 0, 1, 50, 0, 7, 156, 64};
-    const uint32_t times[2] = {1, 2};
-    uint8_t yard[2 * BOUGH_YARD_SHEET], output[BOUGH_ROOM], answer[BOUGH_RECORD_SIZE] = {0};
-    router(yard, 1, 2, second);
-    router(yard + BOUGH_YARD_SHEET, 2, 3, none);
-    expect(bough_walk(yard, sizeof yard, times, 1, query, sizeof query, 0, 0, 0x0A000101, 1, output, sizeof output, answer,
-                      sizeof answer) == BOUGH_WALK_TIMES, "one time for two routers");
-    expect(be(answer, 8) == 0, "a refused walk writes nothing");
-    expect(bough_walk(yard, sizeof yard, times, 2, query, sizeof query, 0, 0, 0x0A000101, 1, output, sizeof output, answer,
-                      sizeof answer) == BOUGH_REPLY, "a walk to its end");
-    expect(be(answer + BOUGH_ANSWER_STEPS, 4) == 2 && be(answer + BOUGH_ANSWER_LENGTH, 4) == 124, "two steps, two blocks");
-    router(yard + BOUGH_YARD_SHEET, 2, 3, first);
-    expect(bough_walk(yard, sizeof yard, times, 2, query, sizeof query, 0, 0, 0x0A000101, 1, output, sizeof output, answer,
-                      sizeof answer) == BOUGH_REPLY, "a walk in a loop");
-    expect(be(answer + BOUGH_ANSWER_STEPS, 4) == 28 && be(answer + BOUGH_ANSWER_BLOCKS, 4) == 27
-               && output[BOUGH_HEADER_SIZE + 26 * BOUGH_STANDARD_SIZE + BOUGH_BLOCK_CODE] == BOUGH_CODE_NO_SPACE,
-           "28 steps, and no space");
+    static struct lent ours, due;
+    struct router back = last;
+    memset(&ours, 0xEE, sizeof ours);
+    header(ours.message, BOUGH_TYPE_QUERY, 255);
+    sheet(ours.tables, second);
+    sheet(ours.tables + BOUGH_YARD_SHEET, last);
+    sheet(ours.tables + 2 * BOUGH_YARD_SHEET, first);
+    due = ours;
+    expect(walk(&ours, 2) == BOUGH_WALK_TIMES && memcmp(&ours, &due, sizeof due) == 0, "two times for three routers");
+    block(block(block(header(due.output, BOUGH_TYPE_REPLY, 255), first, 19), second, 17), last, 18);
+    put(put(put(put(due.record, BOUGH_REPLY, 4), 3, 4), 3, 4), 176, 4);
+    expect(walk(&ours, 3) == BOUGH_REPLY, "a walk to its end");
+    expect(memcmp(&ours, &due, sizeof due) == 0, "the Reply of three blocks and the answer");
+
+    back.upstream = TOWARDS_RECEIVER(9);
+    sheet(ours.tables + BOUGH_YARD_SHEET, back);
+    put(put(put(put(due.record, BOUGH_REPLY, 4), 28, 4), 27, 4), 1424, 4);
+    expect(walk(&ours, 3) == BOUGH_REPLY && memcmp(ours.record, due.record, sizeof due.record) == 0, "28 steps in a loop");
+    expect(ours.output[BOUGH_HEADER_SIZE + 26 * BOUGH_STANDARD_SIZE + BOUGH_BLOCK_CODE] == BOUGH_CODE_NO_SPACE, "no space");
 }
 
 int main(void)

@@ -4,11 +4,15 @@ set -eu
 cd "$(dirname "$0")/.."
 place=$(mktemp -d)
 trap 'rm -rf "$place"' EXIT
+if ! command -v pkg-config > /dev/null; then
+    echo "installed: pkg-config is missing: Debian's package pkg-config has it" >&2
+    exit 1
+fi
+compile=$(make -s compile-line) || exit 1 # make has said why
 make -s install PREFIX="$place"
 flags=$(PKG_CONFIG_PATH="$place/lib/pkgconfig" pkg-config --cflags --libs servicebough)
-cc=${CC:-cc}
 for program in tests/installed.c examples/host.c examples/trace.c examples/sheet.c; do
     # shellcheck disable=SC2086
-    $cc -std=c11 -Wall -Wextra -Wpedantic -Werror -O2 -o "$place/$(basename "$program" .c)" "$program" $flags
+    $compile -Werror -o "$place/$(basename "$program" .c)" "$program" $flags
 done
-"$place/installed"
+./run "$place/installed"

@@ -9,9 +9,8 @@ fail() {
     exit 1
 }
 
-if ! command -v ip > /dev/null; then
-    { apt-get update -qq && apt-get install -y -qq iproute2; } > /dev/null 2>&1 || fail "iproute2 is missing and could not be installed"
-fi
+command -v ip > /dev/null || fail "ip is missing: Debian's package iproute2 has it"
+[ "$(id -u)" = 0 ] || fail "only root makes network namespaces"
 
 tag=bough$$
 place=$(mktemp -d)
@@ -27,10 +26,12 @@ clean_up() {
 }
 trap clean_up EXIT
 
-make -s examples
+make -s examples || exit 1 # make has said why
 bin=$PWD/target/examples
+run=$PWD/run # an x86-64 program, on Arm too
 for text in examples/sheets/*.txt; do
-    "$bin/sheet" < "$text" > "$place/$(basename "$text" .txt)"
+    sheet=$(basename "$text" .txt)
+    "$run" "$bin/sheet" < "$text" > "$place/$sheet"
 done
 
 # ---- the network ------------------------------------------------------------------------------------
@@ -75,7 +76,7 @@ start() {
     local name=$1 sheet=$2
     shift 2
     : > "$place/$name.out"
-    ip netns exec "$tag-$name" "$bin/host" "$@" "$place/$sheet" > "$place/$name.out" 2> "$place/$name.err" &
+    ip netns exec "$tag-$name" "$run" "$bin/host" "$@" "$place/$sheet" > "$place/$name.out" 2> "$place/$name.err" &
     hosts[$name]=$!
     for _ in $(seq 100); do
         grep -q listening "$place/$name.out" && return
@@ -94,7 +95,7 @@ stop() {
 # trace OPTIONS: what the client prints, and its status as the last line
 trace() {
     local status=0
-    in_space client timeout 30 "$bin/trace" -g 232.1.1.1 -s 10.9.0.9 "$@" || status=$?
+    in_space client timeout 30 "$run" "$bin/trace" -g 232.1.1.1 -s 10.9.0.9 "$@" || status=$?
     echo "status $status"
 }
 
@@ -112,6 +113,7 @@ counts() {
 }
 
 sent_datagrams() {
+    # shellcheck disable=SC2016
     in_space "$1" awk '/^Udp:/ { if (n++) print $5 }' /proc/net/snmp
 }
 
@@ -132,7 +134,7 @@ same "a router that is not the client's last hop" "1 out 198.51.100.2 in 203.0.1
 2 out 203.0.113.2 in 10.9.0.1 up 0.0.0.0 code 0 NO_ERROR
 status 0" "$(trace 198.51.100.2)"
 same "a group without a route" "1 out 192.0.2.1 in 0.0.0.0 up 0.0.0.0 code 6 WRONG_LAST_HOP
-status 3" "$(in_space client "$bin/trace" -g 232.9.9.9 192.0.2.1; echo "status $?")"
+status 3" "$(in_space client "$run" "$bin/trace" -g 232.9.9.9 192.0.2.1; echo "status $?")"
 
 cp "$place/far-prohibited" "$place/far"
 kill -HUP "${hosts[far]}"
@@ -143,7 +145,7 @@ same "tracing prohibited at the far router, by a sheet read anew" "1 out 192.0.2
 status 3" "$(trace 192.0.2.1)"
 stop far
 same "the far router's counts" "received 4 sent on 0 replies 4 not sent 0" "$(counts far)"
-"$bin/sheet" < examples/sheets/far.txt > "$place/far"
+"$run" "$bin/sheet" < examples/sheets/far.txt > "$place/far"
 start far far
 
 # ---- a stopped router -------------------------------------------------------------------------------
@@ -196,6 +198,7 @@ before=$(sent_datagrams near)
 # datagram: standard input as one datagram to the near router (cat writes it whole)
 datagram() {
     cat > "$place/datagram"
+    # shellcheck disable=SC2016
     in_space client bash -c 'cat "$0" > /dev/udp/192.0.2.1/33435' "$place/datagram"
 }
 bytes() {
@@ -235,7 +238,7 @@ dropped 17 SEEN 1" "$(counts near)"
 
 refused() {
     local status=0
-    in_space near timeout 10 "$bin/host" "$@" 2>&1 || status=$?
+    in_space near timeout 10 "$run" "$bin/host" "$@" 2>&1 || status=$?
     echo "status $status"
 }
 head -c 1000 "$place/near" > "$place/short"
