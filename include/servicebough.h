@@ -90,7 +90,7 @@ extern "C" {
 #define BOUGH_BLOCK_MASK 50           /* S in the highest bit, then 7 bits of source mask (127: group state) */
 #define BOUGH_BLOCK_CODE 51           /* forwarding code, below */
 
-/* Forwarding codes of RFC 8487 in the blocks of a Reply. The last four and INFO_HIDDEN are written by other
+/* Forwarding codes of RFC 8487 in the blocks of a Reply. The last three and INFO_HIDDEN are written by other
  * routers only. A set 0x80 bit marks an error. */
 #define BOUGH_CODE_NO_ERROR 0x00
 #define BOUGH_CODE_WRONG_IF 0x01       /* came in where this router would not forward the group */
