@@ -1,7 +1,8 @@
 /* Servicebough: an Mtrace2 (RFC 8487, IPv4) engine for a router. What a host written in C calls.
  *
- * The library does no input and no output, keeps no state, takes no memory and calls nothing: the host
- * receives and sends UDP datagrams, and lends the library its bytes for the length of one call.
+ * The library does no input and no output, keeps no state, takes no memory but stack, and calls nothing
+ * but C's memset: the host receives and sends UDP datagrams, and lends the library its bytes for the length
+ * of one call. The archive is x86-64.
  * Every entry may be called from several threads at once, on different bytes.
  *
  * Slices. A slice is a pointer and then its length in bytes (in elements for `times`). The caller owns
@@ -90,8 +91,8 @@ extern "C" {
 #define BOUGH_BLOCK_MASK 50           /* S in the highest bit, then 7 bits of source mask (127: group state) */
 #define BOUGH_BLOCK_CODE 51           /* forwarding code, below */
 
-/* Forwarding codes of RFC 8487 in the blocks of a Reply. The last three and INFO_HIDDEN are written by other
- * routers only. A set 0x80 bit marks an error. */
+/* Forwarding codes of RFC 8487 in the blocks of a Reply. INFO_HIDDEN, REACHED_GW, UNKNOWN_QUERY and FATAL_ERROR
+ * are written by other routers only. A set 0x80 bit marks an error. */
 #define BOUGH_CODE_NO_ERROR 0x00
 #define BOUGH_CODE_WRONG_IF 0x01       /* came in where this router would not forward the group */
 #define BOUGH_CODE_PRUNE_SENT 0x02     /* this router has pruned upstream */
