@@ -32,9 +32,12 @@ use Rattle.engine.specs.Answer.{longerMessage, longerAnswer, sentBy}
 use Rattle.engine.specs.Step.{recentAfter, stepOf}
 use Rattle.yard.specs.Yard.{sheetAt, yardOk, lowestFrom, holderIn}
 use Rattle.yard.specs.Walk.{sentFor, endOf, walkBy, walkFrom, walkRows, walkOf}
+use Rattle.text.specs.Ascii.{ascii}
+use Rattle.text.specs.Input.{headOf, visitOf, timesOf, walkIn, walkFor}
+use Rattle.text.specs.Text.{decimal, dotted, addresses, codeText, lineOf, linesOf, endText, firstLine, walkText, textOf}
 use Rattle.demands.specs.Walk.{blank}
-use Rattle.demands.specs.Example.{sheetBlockBytes, twoRouters, queryFor, traced}
+use Rattle.demands.specs.Example.{sheetBlockBytes, twoRouters, queryFor, traced, paperInput, paperText}
 
 unfoldable pub opened : ℕ
-unfolding be bytes splice allZero byFirst timeFor startOf advanceOf unixOf afterBy issuesBy carried sumFrom sumOk frameOk hosts samePrefix zeroPast interfaceAt interfaceOk routeAt routeOk every listed blockOk interfaceBlocksIn interfaceBlocks entriesIn interfacesIn routesIn blockOkAt validSheet counted layoutOf interfaceOf routeOf interfacesOf routesOf prohibitedOf holderFrom holderOf servesBoth servesGroup servesSource longer longestBy orElse whichRoute reaches someReaches properLastHop codes filledOf blockOf endsTrace blockBytes noteBytes headerOf fitsIn begins blocksBy blocksFrom blocksOf totalSize standardPlaces lastOr standards blocksEnd standardFirst fillsMessage rightForm standardBlocks headerRows messageRows wellFormed empty firstEntries someIsOf seenIn enteredIn routeFor lastHopFor lendingRows deliveryRows routeRows table incomingFor viewWith longerMessage longerAnswer sentBy recentAfter stepOf sheetAt yardOk lowestFrom holderIn sentFor endOf walkBy walkFrom walkRows walkOf blank sheetBlockBytes twoRouters queryFor traced
+unfolding be bytes splice allZero byFirst timeFor startOf advanceOf unixOf afterBy issuesBy carried sumFrom sumOk frameOk hosts samePrefix zeroPast interfaceAt interfaceOk routeAt routeOk every listed blockOk interfaceBlocksIn interfaceBlocks entriesIn interfacesIn routesIn blockOkAt validSheet counted layoutOf interfaceOf routeOf interfacesOf routesOf prohibitedOf holderFrom holderOf servesBoth servesGroup servesSource longer longestBy orElse whichRoute reaches someReaches properLastHop codes filledOf blockOf endsTrace blockBytes noteBytes headerOf fitsIn begins blocksBy blocksFrom blocksOf totalSize standardPlaces lastOr standards blocksEnd standardFirst fillsMessage rightForm standardBlocks headerRows messageRows wellFormed empty firstEntries someIsOf seenIn enteredIn routeFor lastHopFor lendingRows deliveryRows routeRows table incomingFor viewWith longerMessage longerAnswer sentBy recentAfter stepOf sheetAt yardOk lowestFrom holderIn sentFor endOf walkBy walkFrom walkRows walkOf ascii headOf visitOf timesOf walkIn walkFor decimal dotted addresses codeText lineOf linesOf endText firstLine walkText textOf blank sheetBlockBytes twoRouters queryFor traced paperInput paperText
 opened = 0

@@ -6,7 +6,7 @@ use mathlib.Core.List.{List, [], _∷_, _++_, map}
 use mathlib.Core.Path.{_≡_, refl}
 use lib.Dec.{eqb}
 use lib.ListN.{length}
-use Rattle.wire.specs.Numbers.{byteAt, be32}
+use Rattle.wire.specs.Numbers.{byteAt}
 use Rattle.clock.specs.Clock.{startOf, arrivalOf}
 use Rattle.clock.specs.Unix.{unixOf}
 use Rattle.clock.specs.Readings.{Issue, issues}
@@ -17,7 +17,8 @@ use Rattle.rows.proofs.Laws.{zero-none}
 use Rattle.yard.specs.Walk.{Visit, Walk, walkRows}
 use Rattle.demands.specs.Engine.{rows}
 use Rattle.demands.specs.Walk.{callAt}
-use Rattle.demands.specs.Example.{address, twoRouters, twoTimes, paperQuery, startWith, traced}
+use Rattle.text.specs.Text.{textOf}
+use Rattle.demands.specs.Example.{address, twoRouters, twoTimes, paperQuery, startWith, traced, paperInput, paperText}
 use Rattle.demands.proofs.Opened.{opened}
 
 -- an example: its number, what the definitions give, what the paper says
@@ -44,27 +45,17 @@ failing (e ∷ es) = let rest = failing es in let here = e .number ∷ rest in c
 abbrev pub summary : Walk → List ℕ
 summary w = w .end ∷ length (w .visits) ∷ standardCount (w .last) ∷ length (w .last) ∷ []
 
--- of the last message: its codes; and its lines, outgoing, incoming and upstream address and code of each block
+-- of the last message: its codes
 abbrev pub codesOf : Walk → List ℕ
 codesOf w = map (λ (at : ℕ). byteAt (w .last) (at + codeOffset)) (standards (w .last))
 
-abbrev pub linesAt : List ℕ → List ℕ → List ℕ
-linesAt m [] = []
-linesAt m (at ∷ places) = be32 m (at + 12) ∷ be32 m (at + 8) ∷ be32 m (at + 16) ∷ byteAt m (at + codeOffset) ∷ linesAt m places
-
-abbrev pub lines : Walk → List ℕ
-lines w = linesAt (w .last) (standards (w .last))
-
--- P1 the walk as printed. P2 router 1's upstream made 198.51.100.1. P3 the same with hops 255, and its last code. P4 hops 1,
+-- P1 the walk, by the text that is printed for it. P2 router 1's upstream made 198.51.100.1. P3 the same with hops 255, and its last code. P4 hops 1,
 -- P5 hops 0. P6 a clock from 1000. P7 UNIX 0, low 32 bits. P8 the parts that 999999999 ns give
 unfoldable pub examples : List Example
 examples =
     let loop = address 198 51 100 1 in
     let full = traced loop 255 in
-    example 1 (summary (traced 0 10) ++ lines (traced 0 10))
-    (101 ∷ 2 ∷ 2 ∷ 124
-    ∷ address 192 0 2 1 ∷ address 198 51 100 1 ∷ address 198 51 100 2 ∷ 0
-    ∷ address 198 51 100 2 ∷ address 203 0 113 1 ∷ 0 ∷ 0 ∷ [])
+    example 1 (textOf paperInput) paperText
     ∷ example 2 (summary (traced loop 10) ++ codesOf (traced loop 10)) (101 ∷ 10 ∷ 10 ∷ 540 ∷ 0 ∷ 0 ∷ 9 ∷ 0 ∷ 9 ∷ 0 ∷ 9 ∷ 0 ∷ 9 ∷ 0 ∷ [])
     ∷ example 3 (summary full ++ (byteAt (full .last) 1423 ∷ [])) (101 ∷ 28 ∷ 27 ∷ 1424 ∷ 129 ∷ [])
     ∷ example 4 (summary (traced loop 1)) (101 ∷ 1 ∷ 1 ∷ 72 ∷ [])

@@ -7,6 +7,7 @@ use Rattle.block.specs.Sum.{sumFrom}
 use Rattle.message.specs.Format.{most}
 use Rattle.drops.specs.Arrival.{arrival}
 use Rattle.yard.specs.Walk.{Visit, visit, Walk, walkOf}
+use Rattle.text.specs.Ascii.{ascii}
 use Rattle.demands.specs.Walk.{blank}
 
 -- an address by its four octets
@@ -62,3 +63,14 @@ startWith m = visit 0 (arrival m (address 192 0 2 1) 0 0)
 -- its walk
 unfoldable pub traced : ℕ → ℕ → Walk
 traced upstream hops = walkOf (twoRouters upstream) twoTimes (startWith (paperQuery hops)) most
+
+-- what the program `walk` reads: router 0, interface 0, 192.0.2.1, TTL 0, seven bytes; the Query with 10 hops; the yard
+unfoldable pub paperInput : List ℕ
+paperInput = bytes16 0 ++ bytes16 0 ++ bytes32 (address 192 0 2 1) ++ blank 8 ++ paperQuery 10 ++ twoRouters 0
+
+-- and what it prints
+unfoldable pub paperText : List ℕ
+paperText =
+    ascii "reply steps 2 blocks 2\n"
+    ++ ascii "1 out 192.0.2.1 in 198.51.100.1 up 198.51.100.2 code 0\n"
+    ++ ascii "2 out 198.51.100.2 in 203.0.113.1 up 0.0.0.0 code 0\n"
