@@ -197,7 +197,8 @@ pub fn augmented(length: usize, filler: u8) -> Vec<u8> {
     block(AUGMENTED_BLOCK, length, filler)
 }
 
-fn block(kind: u8, length: usize, filler: u8) -> Vec<u8> {
+/// A block of any type likewise.
+pub fn block(kind: u8, length: usize, filler: u8) -> Vec<u8> {
     let mut bytes = vec![filler; length];
     bytes[0] = kind;
     bytes[1..3].copy_from_slice(&(length as u16).to_be_bytes());

@@ -7,7 +7,7 @@
 
 use super::faults::{self, Fault};
 use super::plans::{accepting, plan};
-use super::situations::{all_codes, Situation};
+use super::situations::{all_codes, Scope, Situation};
 use super::tape::{digest, Area, Tape};
 use crate::build::{augmented, ip, mend_all, standard, Header, RouteEntry, SheetPlan};
 use crate::bytes::{be16, be32, mask};
@@ -15,6 +15,7 @@ use crate::engine::{step, Arrival};
 use crate::message::{blocks, BlockType};
 use crate::recent::{Entry, Recent};
 use crate::rng::Rng;
+use std::net::Ipv4Addr;
 
 const STEP: u8 = 6;
 const MESSAGE: usize = 65_600;
@@ -47,6 +48,7 @@ pub fn tape() -> Tape {
     cases.arrivals();
     cases.large_sheets(&mut Rng::new(51));
     cases.random(&mut Rng::new(52));
+    cases.scopes();
     cases.table();
     cases.tape
 }
@@ -392,6 +394,28 @@ impl Cases {
             }
             self.run(&format!("random {number}"), &setup);
         }
+    }
+
+    /// Groups at the edges of 239.0.0.0/8, all ones, and each other first octet, at boundaries: no other code applies.
+    fn scopes(&mut self) {
+        let edges = [ip(238, 255, 255, 255), ip(239, 0, 0, 0), ip(239, 255, 255, 255), u32::MAX];
+        for kind in [1, 2] {
+            for (name, scoped) in
+                [("receiving", Scope::Receiving), ("incoming", Scope::Incoming), ("both", Scope::Both)]
+            {
+                edges.into_iter().for_each(|group| self.scope(kind, name, scoped, group));
+            }
+        }
+        (224..=238).for_each(|octet| self.scope(2, "both", Scope::Both, ip(octet, 1, 1, 1)));
+    }
+
+    fn scope(&mut self, kind: u8, name: &str, scoped: Scope, group: u32) {
+        let route_kind = if group == u32::MAX { 3 } else { 1 };
+        let situation = Situation { scoped, other_group: Some(group), route_kind, ..Situation::new(kind) };
+        let word = if kind == 1 { "query" } else { "request" };
+        let label = format!("{word}: boundary {name}, {}", Ipv4Addr::from(group));
+        let expected = if group >> 24 == 239 { 4 } else { 0 };
+        assert_eq!(self.run(&label, &situation.setup()), Answer { number: 100, code: Some(expected) }, "{label}");
     }
 
     fn table(&mut self) {

@@ -4,7 +4,7 @@
 
 use super::faults::{header, query, request, Fault, HEADER, REQUEST};
 use super::tape::{Area, Tape};
-use crate::build::{augmented, ip, standard, Header};
+use crate::build::{augmented, block, ip, standard, Header};
 use crate::message::{Message, Type};
 use crate::rng::Rng;
 
@@ -19,6 +19,7 @@ pub fn tape() -> Tape {
     cases.addresses();
     cases.free_fields();
     cases.truncations();
+    cases.second_blocks();
     cases.random(&mut Rng::new(31));
     cases.tape
 }
@@ -145,6 +146,18 @@ impl Cases {
         self.check("mixed request", &whole);
         for length in 0..whole.len() {
             self.check_first(&format!("cut to {length}"), length);
+        }
+    }
+
+    /// A second block of known and unknown types, the last one and with a third behind it.
+    fn second_blocks(&mut self) {
+        for (kind, length) in [(6, 52), (5, 52), (1, 52), (3, 52), (255, 52), (6, 8), (5, 8), (4, 8)] {
+            let second = block(kind, length, 0);
+            let expected = if kind == 5 { 0 } else { 13 };
+            let label = format!("request: second block of type {kind} of {length}");
+            assert_eq!(self.check(&label, &header(2).with(&[standard(1), second.clone()])), expected, "{label}");
+            let label = format!("{label}, a third");
+            assert_eq!(self.check(&label, &header(2).with(&[standard(1), second, standard(2)])), expected, "{label}");
         }
     }
 

@@ -6,8 +6,9 @@
 use super::plans::{interface, plan, random_interface, random_route};
 use super::tape::{Area, Tape};
 use crate::build::{ip, mend_all, InterfaceEntry, RouteEntry, SheetPlan};
+use crate::bytes::be16;
 use crate::rng::Rng;
-use crate::sheet::{Rule, Sheet, BLOCK};
+use crate::sheet::{sum, Rule, Sheet, BLOCK};
 
 const CHECK: u8 = 2;
 const INTERFACE: u8 = 3;
@@ -354,6 +355,7 @@ impl Cases {
         }
         self.block_orders();
         self.no_interface_block();
+        self.empty_blocks();
     }
 
     /// Bytes 0 to 3 of each block of a sheet of two interface and two route blocks.
@@ -418,6 +420,17 @@ impl Cases {
         }
     }
 
+    /// Blocks with no entry in use and no other rule broken: the only one of their kind, and one behind a full one.
+    fn empty_blocks(&mut self) {
+        for (interfaces, routes, block) in [(1, 0, 0), (22, 0, 1), (22, 10, 1), (1, 1, 1), (1, 10, 2), (22, 10, 3)] {
+            let mut bytes = plan(interfaces, routes).to_bytes();
+            bytes[block * BLOCK + 1] = 0;
+            bytes[block * BLOCK + 4..block * BLOCK + 508].fill(0);
+            mend_all(&mut bytes);
+            self.broken(Rule::Used, &format!("shape {interfaces} {routes}, block {block} empty"), &bytes);
+        }
+    }
+
     fn sums(&mut self) {
         let two = plan(2, 3).to_bytes();
         for block in 0..2 {
@@ -440,6 +453,23 @@ impl Cases {
         let mut carried = plan(1, 0);
         carried.interfaces[0] = InterfaceEntry { input: u64::MAX, output: u64::MAX, ..carried.interfaces[0] };
         self.kept("many carries", &carried.to_bytes());
+        self.sums_at_edges();
+    }
+
+    /// The running sum with a word of the input count, or of the packet count, is exactly at the edge of a carry.
+    fn sums_at_edges(&mut self) {
+        for (start, at) in [(0, 12), (BLOCK, BLOCK + 28)] {
+            for edge in [65_535, 65_536, 65_537] {
+                let mut bytes = plan(1, 1).to_bytes();
+                let word = edge - u32::from(sum(&bytes[start..at]));
+                bytes[at..at + 2].copy_from_slice(&(word as u16).to_be_bytes());
+                bytes[at + 3] = 9;
+                mend_all(&mut bytes);
+                let met = running_sums(&bytes[start..start + 510]).filter(|sum| (65_535..=65_537).contains(sum));
+                assert_eq!(met.collect::<Vec<u32>>(), [edge]);
+                self.kept(&format!("block {} sum {edge} at {at}", start / BLOCK), &bytes);
+            }
+        }
     }
 
     /// Where the other words sum to 0xFFFF, both 0 and 0xFFFF are right check words, and 1 is not.
@@ -502,6 +532,11 @@ impl Cases {
 /// First octets at the edges of a class and beyond, and whether each is in it.
 fn octets(class: fn(u32) -> bool) -> impl Iterator<Item = (u32, bool)> {
     [0, 1, 2, 10, 126, 127, 128, 192, 223, 224, 232, 239, 240, 254, 255].into_iter().map(move |o| (o, class(o)))
+}
+
+/// The sums of the words so far, each before its carry.
+fn running_sums(block: &[u8]) -> impl Iterator<Item = u32> + '_ {
+    (0..block.len()).step_by(2).map(|at| u32::from(sum(&block[..at])) + u32::from(be16(block, at)))
 }
 
 fn renumbered(blocks: &[&[u8]], order: &[usize]) -> Vec<u8> {

@@ -19,6 +19,8 @@ pub struct Situation {
     pub rpf: bool,
     pub wrong_interface: bool,
     pub scoped: Scope,
+    /// The group, where it is not one of those that go with `scoped`.
+    pub other_group: Option<u32>,
     pub prune_sent: bool,
     pub pruned: bool,
     pub stopped: bool,
@@ -34,6 +36,7 @@ pub enum Scope {
     None,
     Receiving,
     Incoming,
+    Both,
     /// A group in 239.0.0.0/8, and no boundary on the way.
     GroupAlone,
     /// Boundaries, and another group.
@@ -77,6 +80,7 @@ impl Situation {
             rpf: false,
             wrong_interface: false,
             scoped: Scope::None,
+            other_group: None,
             prune_sent: false,
             pruned: false,
             stopped: false,
@@ -134,10 +138,10 @@ impl Situation {
     }
 
     fn group(&self) -> u32 {
-        match self.scoped {
+        self.other_group.unwrap_or(match self.scoped {
             Scope::None | Scope::BoundaryAlone => ip(232, 1, 1, 1),
             _ => ip(239, 1, 1, 1),
-        }
+        })
     }
 
     /// Interface 0 receives, 1 is towards the source, 2 serves clients, 3 does nothing.
@@ -146,10 +150,10 @@ impl Situation {
         if self.no_multicast {
             interfaces[0].flags &= !1;
         }
-        if matches!(self.scoped, Scope::Receiving | Scope::BoundaryAlone) {
+        if matches!(self.scoped, Scope::Receiving | Scope::Both | Scope::BoundaryAlone) {
             interfaces[0].flags |= 2;
         }
-        if matches!(self.scoped, Scope::Incoming | Scope::BoundaryAlone) {
+        if matches!(self.scoped, Scope::Incoming | Scope::Both | Scope::BoundaryAlone) {
             interfaces[1].flags |= 2;
         }
         interfaces[3].flags |= 2;
