@@ -26,7 +26,7 @@ dpkg --add-architecture amd64 and Debian's packages rustc-web, cargo-web and lib
         make -s compiler CC=x86_64-linux-gnu-gcc LDFLAGS= || exit 1 # make has said why
         command -v qemu-x86_64 > /dev/null || fail "qemu-x86_64 is missing: Debian's package qemu-user has it"
         # loader and libraries by name, so that they are of one version
-        libraries=/usr/x86_64-linux-gnu/lib
+        libraries=$(dirname "$(x86_64-linux-gnu-gcc -print-file-name=libc.so.6)")
         emulate="qemu-x86_64 $libraries/ld-linux-x86-64.so.2 --library-path $libraries"
         built=x86_64-unknown-linux-gnu/release
         export CARGO_BUILD_TARGET=x86_64-unknown-linux-gnu

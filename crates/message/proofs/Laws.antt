@@ -2,10 +2,9 @@
 
 -- an accepted message, one to which no row of 5 to 13 applies: what is known of it, and what the check answers for it
 pub use Rattle.message.proofs.Accept.{Accepted, none-applies, applies-none, check-number, check-accepts, accepts-as, accepted-kinds, accepted-query, full-has-standard}
--- where its type 4 blocks stand
-pub use Rattle.message.proofs.Standards.{standards-fit, last-high}
--- found one by one, from each block to the next
-pub use Rattle.message.proofs.Turns.{all-standards, none-short, standards-more, standards-same, standards-over, size-least, size-inside, size-standard, moves-on}
+-- where its type 4 blocks stand, also found one by one, from each block to the next
+pub use Rattle.message.proofs.Standards.{standards-fit, last-high, all-standards, standards-more, standards-same, standards-over}
+pub use Rattle.message.proofs.Turns.{none-short, size-inside, size-standard, moves-on}
 -- what a router sends: a type 4 block appended and a type written
 pub use Rattle.message.proofs.Sent.{sent-header, sent-count, sent-accepted}
 -- the type 4 blocks as bytes, of what is sent

@@ -8,13 +8,15 @@ use native.Mathlib.Omega.{arith}
 use borrow.Author.Tests.{eqb-true}
 use lib.Dec.{eqb}
 use lib.ListN.{length, getD, drop, length-drop}
+use lib.Seq.{drop-drop}
 use Rattle.wire.specs.Numbers.{byteAt, be16}
 use Rattle.message.specs.Format.{headerSize, standard, standardSize}
-use Rattle.message.specs.Inside.{standardAt}
+use Rattle.message.specs.declared.BlockHead.{BlockHead}
+use Rattle.message.specs.Inside.{blockAt, standardsFrom, standardAt}
 use Rattle.message.specs.Blocks.{Placed, placedAt, begins, blocksFrom, blocksOf, totalSize, standardPlaces, lastOr, standards, standardCount, lastStandard}
 use Rattle.rows.proofs.Laws.{decided}
 use Rattle.message.proofs.Cut.{begun, no-blocks, block-first, by-blocks}
-use Rattle.message.proofs.Turns.{standard-more, standard-same}
+use Rattle.message.proofs.Turns.{standard-more, standard-same, there, ends, starts}
 
 -- the type 4 blocks of what begins with no block, with one of type 4, with another
 pub no-places : (at : ℕ) (rest : List ℕ) → begins rest ≡ false → standardPlaces (blocksFrom at rest) ≡ []
@@ -30,6 +32,28 @@ module _ (at : ℕ) (rest : List ℕ) (b : begins rest ≡ true) where
 
   pub places-same : eqb (byteAt rest 0) standard ≡ false → standardPlaces (blocksFrom at rest) ≡ standardPlaces behind
   places-same k = rw (block-first at rest b) (standard-same (placedAt at rest) behind k)
+
+-- the same from a place of a message on, by the block that stands there
+module _ (s : List ℕ) (at : ℕ) (block : BlockHead) (b : block ≡ blockAt s at) where
+  pub standards-over : block .size ≡ 0 → standardsFrom s at ≡ []
+  unfolding standardsFrom
+  standards-over z = no-places at (drop at s) (ends s at block b z)
+
+  module _ (some : block .size ≡ 0 → ⊥) where
+    abbrev starting : begins (drop at s) ≡ true
+    starting = starts s at block b some
+
+    pub standards-more : eqb (block .kind) standard ≡ true → standardsFrom s at ≡ at ∷ standardsFrom s (at + block .size)
+    unfolding standardsFrom
+    standards-more = rw (there s at block b starting, ← drop-drop) (places-more at (drop at s) starting)
+
+    pub standards-same : eqb (block .kind) standard ≡ false → standardsFrom s at ≡ standardsFrom s (at + block .size)
+    unfolding standardsFrom
+    standards-same = rw (there s at block b starting, ← drop-drop) (places-same at (drop at s) starting)
+
+pub all-standards : (s : List ℕ) → standards s ≡ standardsFrom s headerSize
+unfolding standards blocksOf standardsFrom
+all-standards s = refl
 
 -- the rule of the type 4 blocks: what holds of one that stands in front, and goes on from behind a block to the whole,
 -- holds of every one

@@ -1,9 +1,9 @@
 -- What each turn of the walk over the blocks shows: the answer for the whole message is what was found so far, joined with
 -- what the blocks from here on give.
 use Prim.Native.Nat.{ℕ, suc, _+_, _-_, _≤_, _<_}
-use mathlib.Core.Path.{_≡_, refl, sym, ap, _∙_}
+use mathlib.Core.Path.{_≡_, sym, ap, _∙_}
 use mathlib.Core.Bool.{Bool, true, false, not, cond}
-use mathlib.Core.List.{List, [], _∷_}
+use mathlib.Core.List.{List, _∷_}
 use mathlib.Core.Logic.{⊎-elim}
 use native.Mathlib.Omega.{arith}
 use native.Mathlib.Nat.{add-zero, zero-add, add-assoc}
@@ -17,9 +17,9 @@ use Rattle.wire.proofs.Laws.{be-drop}
 use Rattle.message.specs.declared.Blocks.{Blocks}
 use Rattle.message.specs.declared.BlockHead.{BlockHead}
 use Rattle.message.specs.Format.{headerSize, standard, standardSize, augmentedLeast}
-use Rattle.message.specs.Blocks.{Placed, placedAt, begins, fitsIn, blocksFrom, blocksOf, totalSize, standardPlaces, lastOr, standards, blocksEnd}
-use Rattle.message.specs.Inside.{noBlock, blockAt, standardsFrom, blocksSeen}
-use Rattle.message.proofs.Cut.{Begun, begun, too-short, no-blocks, block-first}
+use Rattle.message.specs.Blocks.{Placed, begins, fitsIn, blocksFrom, blocksOf, totalSize, standardPlaces, lastOr, standards, blocksEnd}
+use Rattle.message.specs.Inside.{noBlock, blockAt, blocksSeen}
+use Rattle.message.proofs.Cut.{begun, too-short, no-blocks, block-first}
 
 -- what was found up to a place, joined with the blocks from there on
 unfoldable pub joined : ℕ → ℕ → ℕ → List Placed → Blocks
@@ -76,7 +76,7 @@ module _ (s : List ℕ) (at : ℕ) (block : BlockHead) (b : block ≡ blockAt s 
   abbrev rest : List ℕ
   rest = drop at s
 
-  there : begins rest ≡ true → block ≡ record { kind = byteAt rest 0; size = be16 rest 1 }
+  pub there : begins rest ≡ true → block ≡ record { kind = byteAt rest 0; size = be16 rest 1 }
   unfolding blockAt
   there e = b ∙ rw e
 
@@ -84,7 +84,7 @@ module _ (s : List ℕ) (at : ℕ) (block : BlockHead) (b : block ≡ blockAt s 
   unfolding blockAt
   nowhere e = b ∙ rw e
 
-  ends : block .size ≡ 0 → begins rest ≡ false
+  pub ends : block .size ≡ 0 → begins rest ≡ false
   ends z =
       ⊎-elim
       (λ e. absurd (omega (arith, z, begun rest e .least, ap (λ (h : BlockHead). h .size) (there e))))
@@ -92,7 +92,7 @@ module _ (s : List ℕ) (at : ℕ) (block : BlockHead) (b : block ≡ blockAt s 
       (decided (begins rest))
 
   module _ (some : block .size ≡ 0 → ⊥) where
-    starts : begins rest ≡ true
+    pub starts : begins rest ≡ true
     starts = ⊎-elim (λ e. e) (λ e. absurd (some (ap (λ (h : BlockHead). h .size) (nowhere e)))) (decided (begins rest))
 
     size-there : block .size ≡ be16 rest 1
@@ -117,19 +117,6 @@ module _ (s : List ℕ) (at : ℕ) (block : BlockHead) (b : block ≡ blockAt s 
         block-first at rest starts
         ∙ rw (there starts, drop-drop)
 
-    pub standards-more : eqb (block .kind) standard ≡ true → standardsFrom s at ≡ at ∷ standardsFrom s (at + block .size)
-    unfolding standardsFrom
-    standards-more e = rw blocks-on (standard-more (record { at = at; kind = block .kind; size = block .size }) _ e)
-
-    pub standards-same : eqb (block .kind) standard ≡ false → standardsFrom s at ≡ standardsFrom s (at + block .size)
-    unfolding standardsFrom
-    standards-same e = rw blocks-on (standard-same (record { at = at; kind = block .kind; size = block .size }) _ e)
-
-  -- none are left
-  pub standards-over : block .size ≡ 0 → standardsFrom s at ≡ []
-  unfolding standardsFrom standardPlaces
-  standards-over z = rw (no-blocks at rest (ends z))
-
   -- the walk over them
   module _ (count last : ℕ) (so-far : blocksSeen s ≡ joined at count last (blocksFrom at rest)) where
     pub stopped : block .size ≡ 0 → record { end = at; count = count; last = last } ≡ blocksSeen s
@@ -150,7 +137,3 @@ module _ (s : List ℕ) (at : ℕ) (block : BlockHead) (b : block ≡ blockAt s 
 pub at-first : (s : List ℕ) → blocksSeen s ≡ joined headerSize 0 0 (blocksFrom headerSize (drop headerSize s))
 unfolding blocksSeen blocksEnd standards blocksOf joined
 at-first s = rw zero-add
-
-pub all-standards : (s : List ℕ) → standards s ≡ standardsFrom s headerSize
-unfolding standards blocksOf standardsFrom
-all-standards s = refl

@@ -33,6 +33,16 @@ augmented = 5
 abbrev pub standardSize : ℕ
 standardSize = 52
 
+-- the places of the incoming, the outgoing and the upstream address in it
+abbrev pub incomingOffset : ℕ
+incomingOffset = 8
+
+abbrev pub outgoingOffset : ℕ
+outgoingOffset = 12
+
+abbrev pub upstreamOffset : ℕ
+upstreamOffset = 16
+
 -- the place of the forwarding code in it
 abbrev pub codeOffset : ℕ
 codeOffset = 51

@@ -29,7 +29,14 @@ const AUGMENTED: u8 = 5;
 
 pub const STANDARD_SIZE: usize = 52;
 
-// The place of the forwarding code in a Standard Response Block.
+// The places of the incoming, the outgoing and the upstream address in a Standard Response Block.
+pub const INCOMING_OFFSET: usize = 8;
+
+pub const OUTGOING_OFFSET: usize = 12;
+
+pub const UPSTREAM_OFFSET: usize = 16;
+
+// The place of the forwarding code in it.
 pub const CODE_OFFSET: usize = 51;
 
 const AUGMENTED_LEAST: usize = 8;

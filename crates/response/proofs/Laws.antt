@@ -1,10 +1,12 @@
--- The laws that other crates cite: no route ends a trace whatever code is shown, and how long a block and a record are.
+-- The laws that other crates cite: no route ends a trace whatever code is shown, how long a block and a record are, and where a block
+-- has its addresses and its code.
 use Prim.Native.Nat.{ℕ}
 use mathlib.Core.Bool.{true}
 use mathlib.Core.Path.{_≡_, refl}
 use lib.ListN.{length}
-use Rattle.wire.specs.Numbers.{bytes}
-use Rattle.message.specs.Format.{standardSize, noteSize}
+use Rattle.wire.specs.Numbers.{byteAt, bytes, bytes32}
+use Rattle.wire.specs.Parts.{part}
+use Rattle.message.specs.Format.{standardSize, incomingOffset, outgoingOffset, upstreamOffset, codeOffset, noteSize}
 use Rattle.route.specs.declared.Chosen.the-variants.{Nothing}
 use Rattle.response.specs.declared.View.{View}
 use Rattle.response.specs.declared.Block.{Block}
@@ -26,6 +28,15 @@ hidden-no-route v none wrong = rw (none, wrong)
 pub block-length : (b : Block) → length (blockBytes b) ≡ standardSize
 unfolding blockBytes bytes
 block-length b = refl
+
+-- the three addresses and the code of a block stand at the format's places
+pub block-shows : (b : Block)
+    → (part incomingOffset 4 (blockBytes b) ≡ bytes32 (b .filled .incoming))
+    × (part outgoingOffset 4 (blockBytes b) ≡ bytes32 (b .outgoing))
+    × (part upstreamOffset 4 (blockBytes b) ≡ bytes32 (b .filled .upstream))
+    × (byteAt (blockBytes b) codeOffset ≡ b .code)
+unfolding blockBytes bytes
+block-shows b = (refl, refl, refl, refl)
 
 pub note-length : (n : Note) → length (noteBytes n) ≡ noteSize
 unfolding noteBytes bytes

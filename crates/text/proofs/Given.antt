@@ -1,6 +1,6 @@
 -- What is read: the times set so far, and the first bytes of an input.
-use Prim.Native.Nat.{ℕ, suc, _+_, _*_, _-_, _≤_, _<_, min}
-use mathlib.Core.Path.{_≡_, refl, sym, ap, _∙_}
+use Prim.Native.Nat.{ℕ, _+_, _*_, _-_, _≤_, _<_, min}
+use mathlib.Core.Path.{_≡_, sym, ap, _∙_}
 use mathlib.Core.List.{List, [], _∷_, _++_}
 use native.Mathlib.Omega.{arith}
 use native.Mathlib.Numerals.{add-one}
@@ -33,24 +33,23 @@ times-set times i e n h k =
     let all : i ≡ 32 = omega arith in
     sym (take-all 32 times (omega arith)) ∙ ap (λ (j : ℕ). take j times) (sym all) ∙ e ∙ ap timesOf all
 
--- as much as there is of the first bytes, and what stands behind them
-pub take-there : (n : ℕ) (l : List ℕ) → take (min n (length l)) l ≡ take n l
-take-there n l =
+-- what a list has of its first bytes, and what stands behind them: a number past its end comes to the same as its length
+up-to-end : {A : Type 0} (f : ℕ → A) (n : ℕ) (l : List ℕ) → (length l ≤ n → f (length l) ≡ f n) → f (min n (length l)) ≡ f n
+up-to-end f n l past =
     ⊎-elim
     (λ e. rw (min-eq-left (leb-true n (length l) e)))
     (λ e.
     let short : length l < n = leb-false n (length l) e in
-    rw (min-eq-right {n = length l} {m = n} (omega arith)) (take-length l ∙ sym (take-all n l (omega arith))))
+    rw (min-eq-right {n = length l} {m = n} (omega arith)) (past (omega arith)))
     (decided (leb n (length l)))
 
-pub drop-there : (n : ℕ) (l : List ℕ) → drop (min n (length l)) l ≡ drop n l
+take-there : (n : ℕ) (l : List ℕ) → take (min n (length l)) l ≡ take n l
+take-there n l = up-to-end (λ k. take k l) n l (λ h. take-length l ∙ sym (take-all n l h))
+
+drop-there : (n : ℕ) (l : List ℕ) → drop (min n (length l)) l ≡ drop n l
 drop-there n l =
-    ⊎-elim
-    (λ e. rw (min-eq-left (leb-true n (length l) e)))
-    (λ e.
-    let short : length l < n = leb-false n (length l) e in
-    rw (min-eq-right {n = length l} {m = n} (omega arith)) (drop-of-length-le l {i = length l} (omega arith) ∙ sym (drop-of-length-le l {i = n} (omega arith))))
-    (decided (leb n (length l)))
+    up-to-end (λ k. drop k l) n l
+    (λ h. drop-of-length-le l {i = length l} (omega arith) ∙ sym (drop-of-length-le l {i = n} h))
 
 pub head-there : (input head : List ℕ) (n : ℕ) → n ≡ min headSize (length input) → head ≡ splice (replicate headSize 0) 0 (take n input) → head ≡ headOf input
 unfolding headOf

@@ -1,14 +1,13 @@
 -- The lines of a message's type 4 blocks, written one by one while its blocks are passed.
 use Prim.Native.Nat.{ℕ, suc, _+_, _*_, _-_, _≤_, _<_}
-use mathlib.Core.Path.{_≡_, refl, sym, ap, _∙_}
+use mathlib.Core.Path.{_≡_, refl, sym, _∙_}
 use mathlib.Core.Bool.{Bool, true, false, cond}
-use mathlib.Core.List.{List, [], _∷_, _++_, map, append-nil, append-assoc}
+use mathlib.Core.List.{List, [], _++_, map, append-nil, append-assoc}
 use mathlib.Core.Logic.{⊎-elim}
 use native.Mathlib.Omega.{arith}
 use native.Mathlib.Numerals.{add-one}
-use borrow.Author.Tests.{eqb-true}
 use lib.Dec.{eqb}
-use lib.ListN.{length, take, drop, length-drop, drop-of-length-le}
+use lib.ListN.{length, take, drop, length-drop}
 use lib.Seq.{length-take-le}
 use Rattle.rows.proofs.Laws.{decided}
 use Rattle.wire.specs.Parts.{part}
@@ -16,9 +15,9 @@ use Rattle.message.specs.Format.{headerSize, most, standard, standardSize}
 use Rattle.message.specs.Blocks.{standards, standardBlocks}
 use Rattle.message.specs.Inside.{blockAt, standardsFrom}
 use Rattle.message.specs.declared.BlockHead.{BlockHead}
-use Rattle.message.proofs.Laws.{all-standards, none-short, standards-more, standards-same, standards-over, size-least, size-inside, size-standard, moves-on}
-use Rattle.text.specs.Text.{lineOf, linesOf}
-use Rattle.text.specs.Inside.{Written, mostLine, mostLines}
+use Rattle.message.proofs.Laws.{all-standards, none-short, standards-more, standards-same, standards-over, size-inside, size-standard}
+use Rattle.text.specs.Text.{lineOf, linesOf, mostLine, mostLines}
+use Rattle.text.specs.Inside.{Written}
 use Rattle.text.proofs.Written.{nothing, no-more, then}
 
 -- a block's line, or none

@@ -13,8 +13,8 @@ use Rattle.message.specs.Blocks.{standardBlocks}
 use Rattle.yard.specs.declared.Walked.{Walked}
 use Rattle.yard.specs.Walk.{Walk, Tells}
 use Rattle.text.specs.Input.{walkFor}
-use Rattle.text.specs.Text.{linesOf, firstLine, walkText, textOf, textSize}
-use Rattle.text.specs.Inside.{Written, mostFirst, mostLines}
+use Rattle.text.specs.Text.{linesOf, firstLine, walkText, textOf, mostFirst, mostLines, textSize}
+use Rattle.text.specs.Inside.{Written}
 use Rattle.text.proofs.Written.{then}
 
 module _ (w : Walk) (output output′ : List ℕ) (r : Walked) (told : Tells w output r output′) where

@@ -1,20 +1,20 @@
 -- Bytes written into a text one behind the other: two runs of them are one.
 use Prim.Native.Nat.{ℕ, zero, suc, _+_, _-_, _/_, _%_, _≤_, _<_}
-use mathlib.Core.Path.{_≡_, refl, sym, ap, _∙_}
-use mathlib.Core.Bool.{true, false}
+use mathlib.Core.Path.{_≡_, refl, sym, _∙_}
 use mathlib.Core.List.{List, [], _∷_, _++_, append-nil}
 use native.Mathlib.Omega.{arith}
 use native.Mathlib.Nat.{add-zero}
 use borrow.Author.Tests.{lt-ltb, le-ltb, ne-eqb}
-use lib.ListN.{length, take, drop, length-append, take-append-drop}
+use lib.ListN.{length, length-append, take-append-drop}
 use Rattle.wire.specs.Parts.{splice}
 use Rattle.engine.specs.Answer.{sentHome}
 use Rattle.yard.specs.declared.Walked.{Walked}
 use Rattle.wire.proofs.Laws.{splice-join}
 use Rattle.wire.specs.Numbers.{byteAt}
 use Rattle.text.specs.Ascii.{ascii}
-use Rattle.text.specs.Text.{zeroDigit, decimal, number, octet, dotted, addresses, codeText, lineOf, endText, firstLine, outgoingOffset, incomingOffset, upstreamOffset}
-use Rattle.text.specs.Inside.{Written, mostLine, mostFirst}
+use Rattle.message.specs.Format.{outgoingOffset, incomingOffset, upstreamOffset}
+use Rattle.text.specs.Text.{zeroDigit, decimal, number, octet, dotted, addresses, codeText, lineOf, endText, firstLine, mostLine, mostFirst}
+use Rattle.text.specs.Inside.{Written}
 
 -- nothing is written
 pub nothing : (most at : ℕ) (text : List ℕ) → Written [] most at text text at

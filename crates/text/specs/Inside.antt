@@ -1,13 +1,9 @@
 -- Inside: what only the contracts of inner functions cite.
 use Prim.Native.Nat.{ℕ, _+_, _≤_}
-use mathlib.Core.Bool.{cond}
-use mathlib.Core.List.{List, []}
+use mathlib.Core.List.{List}
 use mathlib.Core.Path.{_≡_}
-use lib.Dec.{eqb}
 use lib.ListN.{length}
 use Rattle.wire.specs.Parts.{splice}
-use Rattle.message.specs.Format.{standard}
-use Rattle.text.specs.Text.{lineOf}
 
 -- some bytes are written into a text from a place on: they stand there, all others stay, the next place is behind them, and they are
 -- not more than were foreseen
@@ -15,13 +11,3 @@ pub record Written (xs : List ℕ) (most at : ℕ) (text text′ : List ℕ) (ne
   pub bytes : text′ ≡ splice text at xs
   pub behind : next ≡ at + length xs
   pub few : length xs ≤ most
-
--- the longest line of a block, all lines of the longest message, and the longest first line
-abbrev pub mostLine : ℕ
-mostLine = 78
-
-abbrev pub mostLines : ℕ
-mostLines = 2106
-
-abbrev pub mostFirst : ℕ
-mostFirst = 46

@@ -1,11 +1,11 @@
 -- What the program `walk` prints (document 01, "Worked through"): `reply` or the end's number, steps and blocks; then a line for each
 -- type 4 block of the last message sent.
-use Prim.Native.Nat.{ℕ, zero, suc, _+_, _/_, _%_}
+use Prim.Native.Nat.{ℕ, zero, suc, _+_, _*_, _-_, _/_, _%_}
 use mathlib.Core.Bool.{cond}
 use mathlib.Core.List.{List, [], _∷_, _++_}
 use lib.Dec.{ltb, eqb}
 use Rattle.wire.specs.Numbers.{byteAt}
-use Rattle.message.specs.Format.{codeOffset}
+use Rattle.message.specs.Format.{headerSize, most, standardSize, incomingOffset, outgoingOffset, upstreamOffset, codeOffset}
 use Rattle.message.specs.Blocks.{standardBlocks}
 use Rattle.engine.specs.Answer.{sentHome}
 use Rattle.yard.specs.declared.Walked.{Walked}
@@ -36,16 +36,6 @@ dotted s at =
     ++ (octet (byteAt s (at + 1)) ++ ascii ".")
     ++ (octet (byteAt s (at + 2)) ++ ascii ".")
     ++ octet (byteAt s (at + 3))
-
--- the places of three addresses in a Standard Response Block
-abbrev pub incomingOffset : ℕ
-incomingOffset = 8
-
-abbrev pub outgoingOffset : ℕ
-outgoingOffset = 12
-
-abbrev pub upstreamOffset : ℕ
-upstreamOffset = 16
 
 -- where a block's message came in, where the source is, and who is next
 unfoldable pub addresses : List ℕ → List ℕ
@@ -84,6 +74,16 @@ walkText w = firstLine (walkedOf w) ++ linesOf 1 (standardBlocks (w .last))
 unfoldable pub textOf : List ℕ → List ℕ
 textOf input = walkText (walkFor input)
 
--- no text is longer: a first line of at most 46 bytes, and 27 lines of at most 78
+-- the longest first line; the longest line of a block; the lines of as many blocks as a message has room for
+abbrev pub mostFirst : ℕ
+mostFirst = 46
+
+abbrev pub mostLine : ℕ
+mostLine = 78
+
+abbrev pub mostLines : ℕ
+mostLines = mostLine * ((most - headerSize) / standardSize)
+
+-- no text is longer
 abbrev pub textSize : ℕ
-textSize = 2152
+textSize = mostFirst + mostLines

@@ -11,8 +11,8 @@ ghost use Rattle.yard.specs.Yard.{mostRouters};
 ghost use Rattle.yard.specs.Walk.{Tells};
 ghost use Rattle.message.specs.Blocks.{standardBlocks};
 ghost use Rattle.text.specs.Input.{inputSize, headSize, headOf, timesOf, walkIn, walkFor};
-ghost use Rattle.text.specs.Text.{zeroDigit, decimal, number, octet, dotted, addresses, codeText, lineOf, linesOf, endText, firstLine, textOf, textSize};
-ghost use Rattle.text.specs.Inside.{Written, mostLine, mostLines, mostFirst};
+ghost use Rattle.text.specs.Text.{zeroDigit, decimal, number, octet, dotted, addresses, codeText, lineOf, linesOf, endText, firstLine, textOf, mostFirst, mostLine, mostLines, textSize};
+ghost use Rattle.text.specs.Inside.{Written};
 
 // The bytes that say where the Query arrives: router 2, interface 2, destination 4, TTL 1, and seven that are ignored.
 const START_SIZE: usize = 16;
@@ -23,8 +23,8 @@ const HEAD_SIZE: usize = START_SIZE + message::HEADER_SIZE;
 // No more is to be read: one byte more than the longest yard, so that a longer one is seen.
 const INPUT_SIZE: usize = HEAD_SIZE + yard::MOST_ROUTERS * yard::SHEET_SIZE + 1;
 
-// No text is longer: a first line of at most 46 bytes, and 27 lines of at most 78.
-pub const TEXT_SIZE: usize = 2152;
+// No text is longer: a first line of at most 46 bytes, and a line of at most 78 for each of 27 blocks.
+pub const TEXT_SIZE: usize = 46 + 78 * 27;
 
 const ZERO_DIGIT: u8 = b'0';
 
@@ -32,13 +32,6 @@ const ZERO_DIGIT: u8 = b'0';
 const OCTET_DIGITS: usize = 3;
 
 const NUMBER_DIGITS: usize = 10;
-
-// Where three addresses stand in a Standard Response Block.
-const INCOMING: usize = 8;
-
-const OUTGOING: usize = 12;
-
-const UPSTREAM: usize = 16;
 
 // A byte as a wider number.
 fn wide(b: u8) -> u32
@@ -200,9 +193,9 @@ fn addresses(block: &[u8], text: &mut [u8], at: usize) -> usize
     requires { ⌜ (standardSize ≤ length (now block)) × (at + 58 ≤ length (now text)) ⌝ }
     ensures { λ r. ⌜ Written (addresses (now (block .entry))) 58 at (now (text .entry)) (now (text .exit)) r ⌝ }
 {
-    let incoming = address(b" out ", block, OUTGOING, text, at);
-    let upstream = address(b" in ", block, INCOMING, text, incoming);
-    address(b" up ", block, UPSTREAM, text, upstream)
+    let incoming = address(b" out ", block, message::OUTGOING_OFFSET, text, at);
+    let upstream = address(b" in ", block, message::INCOMING_OFFSET, text, incoming);
+    address(b" up ", block, message::UPSTREAM_OFFSET, text, upstream)
 }
 
 // A block's line: its place, its addresses, its code.
