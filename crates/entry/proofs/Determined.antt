@@ -8,6 +8,10 @@ use Rattle.entry.proofs.interface.interface_ok.Reads as interface-ok
 use Rattle.entry.proofs.prefix.same_prefix.Reads as same-prefix
 use Rattle.entry.proofs.prefix.zero_past.Reads as zero-past
 use Rattle.entry.proofs.route.route_at.Reads as route-at
+use Rattle.entry.proofs.route.kind_at.Reads as kind-at
+use Rattle.entry.proofs.route.length_at.Reads as length-at
+use Rattle.entry.proofs.route.source_at.Reads as source-at
+use Rattle.entry.proofs.route.group_at.Reads as group-at
 use Rattle.entry.proofs.route.is_rp.Reads as is-rp
 use Rattle.entry.proofs.route.prune_sent.Reads as prune-sent
 use Rattle.entry.proofs.route.in_map.Reads as in-map
@@ -33,6 +37,18 @@ zero-past-determined κs a x y e f p q = both-are p q
 
 pub route-at-determined : (κs : _) (a : _) (x y : _) (e f : _) → route-at.Post κs a x e → route-at.Post κs a y f → x ≡ y
 route-at-determined κs a x y e f p q = both-are p q
+
+pub kind-at-determined : (κs : _) (a : _) (x y : _) (e f : _) → kind-at.Post κs a x e → kind-at.Post κs a y f → x ≡ y
+kind-at-determined κs a x y e f p q = both-are p q
+
+pub length-at-determined : (κs : _) (a : _) (x y : _) (e f : _) → length-at.Post κs a x e → length-at.Post κs a y f → x ≡ y
+length-at-determined κs a x y e f p q = both-are p q
+
+pub source-at-determined : (κs : _) (a : _) (x y : _) (e f : _) → source-at.Post κs a x e → source-at.Post κs a y f → x ≡ y
+source-at-determined κs a x y e f p q = both-are p q
+
+pub group-at-determined : (κs : _) (a : _) (x y : _) (e f : _) → group-at.Post κs a x e → group-at.Post κs a y f → x ≡ y
+group-at-determined κs a x y e f p q = both-are p q
 
 pub is-rp-determined : (κs : _) (a : _) (x y : _) (e f : _) → is-rp.Post κs a x e → is-rp.Post κs a y f → x ≡ y
 is-rp-determined κs a x y e f p q = both-are p q

@@ -65,6 +65,38 @@ pub fn route_at(s: &[u8], at: usize) -> Route
     }
 }
 
+// Its kind by itself. The choice of a route looks at four fields of each, and reads no other.
+pub fn kind_at(s: &[u8], at: usize) -> u8
+    requires { ⌜ at + routeSize ≤ length (now s) ⌝ }
+    ensures { λ r. ⌜ r ≡ routeAt (now (s .entry)) at .kind ⌝ }
+{
+    s[at]
+}
+
+// The length of its source prefix.
+pub fn length_at(s: &[u8], at: usize) -> u8
+    requires { ⌜ at + routeSize ≤ length (now s) ⌝ }
+    ensures { λ r. ⌜ r ≡ routeAt (now (s .entry)) at .length ⌝ }
+{
+    s[at + 1]
+}
+
+// Its source.
+pub fn source_at(s: &[u8], at: usize) -> u32
+    requires { ⌜ at + routeSize ≤ length (now s) ⌝ }
+    ensures { λ r. ⌜ r ≡ routeAt (now (s .entry)) at .source ⌝ }
+{
+    wire::be32(s, at + 4)
+}
+
+// Its group.
+pub fn group_at(s: &[u8], at: usize) -> u32
+    requires { ⌜ at + routeSize ≤ length (now s) ⌝ }
+    ensures { λ r. ⌜ r ≡ routeAt (now (s .entry)) at .group ⌝ }
+{
+    wire::be32(s, at + 8)
+}
+
 // Whether the RP flag is set.
 pub fn is_rp(r: Route) -> bool
     ensures { λ b. ⌜ b ≡ isRp r ⌝ }
