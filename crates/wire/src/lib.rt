@@ -35,12 +35,13 @@ pub fn be32(s: &[u8], at: usize) -> u32
     be16(s, at) as u32 * 65536 + be16(s, at + 2) as u32
 }
 
-// The number of 8 bytes that begins at `at`.
+// The number of 8 bytes that begins at `at`: written as four of 2 bytes, which the compiler takes for one load.
 pub fn be64(s: &[u8], at: usize) -> u64
     requires { ⌜ at + 8 ≤ length (now s) ⌝ }
     ensures { λ r. ⌜ r ≡ be64 (now (s .entry)) at ⌝ }
 {
-    be32(s, at) as u64 * 4294967296 + be32(s, at + 4) as u64
+    (be16(s, at) as u64 * 281474976710656 + be16(s, at + 2) as u64 * 4294967296)
+        + (be16(s, at + 4) as u64 * 65536 + be16(s, at + 6) as u64)
 }
 
 // Writes `v` into the 2 bytes that begin at `at`.
