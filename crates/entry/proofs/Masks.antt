@@ -3,11 +3,12 @@ use Prim.Native.Nat.{ℕ, _+_, _*_, _/_, _%_, _-_, _^_, _≤_, _<_}
 use mathlib.Core.Bool.{Bool, true, false}
 use mathlib.Core.Path.{_≡_, refl, sym, ap, _∙_}
 use native.Mathlib.Omega.{arith}
-use native.Mathlib.Nat.{one-mul, div-add-mod', eq-of-mul-eq-mul-right}
-use lib.Pow.{pow-pos, pow-mono, shl-exact, low, shr-mod}
+use native.Mathlib.Nat.{one-mul, zero-mul, mul-mod-left, eq-of-mul-eq-mul-right}
+use lib.Pow.{pow-pos, pow-mono, shl-exact, shl-shr, low, mod-pow-add, shr-mod, le-ones, lt-of-le-ones}
 use lib.Bits.{bitAnd, and-high}
-use lib.Dec.{ltb, eqb}
-use borrow.Author.Tests.{lt-ltb, eq-eqb, ne-eqb, eqb-true, eqb-false}
+use lib.Dec.{leb, eqb}
+use borrow.Author.Tests.{lt-ltb, le-leb, ltb-true, leb-true, eq-eqb, ne-eqb, eqb-true, eqb-false}
+use Rattle.rows.proofs.Laws.{same-flag}
 use Rattle.entry.specs.Interface.{mostInterfaces}
 use Rattle.entry.specs.Prefix.{addressBits, hosts, samePrefix, zeroPast}
 use Rattle.entry.specs.Route.{mapOk}
@@ -49,12 +50,39 @@ pub none-past : (bits a : ℕ) → addressBits < bits → true ≡ zeroPast bits
 unfolding zeroPast hosts
 none-past bits a h = let e : addressBits - bits ≡ 0 = omega arith in rw e (sym (eq-eqb (a % 1) 0 (omega arith)))
 
--- the bits of a map from interface n on
-pub map-whole : (n map : ℕ) → n ≡ mostInterfaces → map < 2 ^ mostInterfaces → true ≡ mapOk n map
-map-whole n map e h = rw e (sym (lt-ltb map (2 ^ mostInterfaces) h))
+-- shifted up by so many bits, an address leaves of itself in 32 bits what stands past them
+pub shifted-past : (bits a : ℕ) → bits ≤ addressBits → a < 2 ^ addressBits → eqb (a * 2 ^ bits % 2 ^ 64 % 4294967296) 0 ≡ zeroPast bits a
+unfolding zeroPast hosts
+shifted-past bits a h k =
+    let j : ℕ = addressBits - bits in
+    let n : ℕ = a * 2 ^ bits in
+    let whole : addressBits ≡ j + bits = omega arith in
+    let left : n % 2 ^ addressBits ≡ a % 2 ^ j * 2 ^ bits =
+    ap (λ (w : ℕ). n % 2 ^ w) whole ∙ mod-pow-add n j bits ∙ rw (shl-shr a bits, mul-mod-left a (2 ^ bits)) (omega arith) in
+    let some : 0 < 2 ^ bits = pow-pos bits in
+    rw (shl-exact {a = a} addressBits bits 64 k (omega arith), left)
+    (same-test (a % 2 ^ j * 2 ^ bits) 0 (a % 2 ^ j) 0
+    (λ e. eq-of-mul-eq-mul-right (2 ^ bits) some (a % 2 ^ j) 0 (e ∙ sym (zero-mul (2 ^ bits))))
+    (λ e. ap (λ (m : ℕ). m * 2 ^ bits) e ∙ zero-mul (2 ^ bits)))
 
-pub map-below : (n map : ℕ) → n ≤ mostInterfaces → (n ≡ mostInterfaces → ⊥) → ltb map (1 * 2 ^ n % 2 ^ mostInterfaces) ≡ mapOk n map
-map-below n map h other = rw (shl-exact {a = 1} 1 n mostInterfaces (omega arith) (omega arith), one-mul)
+-- the map of all interfaces: of 64, and of fewer
+pub whole-64 : (n : ℕ) → n ≡ mostInterfaces → 18446744073709551615 ≡ 2 ^ n - 1
+whole-64 n e = rw e
+
+one-shifted : (n : ℕ) → n ≤ mostInterfaces → (n ≡ mostInterfaces → ⊥) → 1 * 2 ^ n % 2 ^ 64 ≡ 2 ^ n
+one-shifted n h other = shl-exact {a = 1} 1 n 64 (omega arith) (omega arith) ∙ one-mul (2 ^ n)
+
+pub whole-some : (n : ℕ) → n ≤ mostInterfaces → (n ≡ mostInterfaces → ⊥) → 1 ≤ 1 * 2 ^ n % 2 ^ 64
+whole-some n h other = rw (one-shifted n h other) (pow-pos n)
+
+pub whole-fewer : (n : ℕ) → n ≤ mostInterfaces → (n ≡ mostInterfaces → ⊥) → 1 * 2 ^ n % 2 ^ 64 - 1 ≡ 2 ^ n - 1
+whole-fewer n h other = rw (one-shifted n h other)
+
+-- a map without a bit past it, and one with one
+pub map-within : (n whole map : ℕ) → whole ≡ 2 ^ n - 1 → leb map whole ≡ mapOk n map
+map-within n whole map e =
+    same-flag (leb map whole) (mapOk n map) (λ t. lt-ltb map (2 ^ n) (lt-of-le-ones n (rw e at (leb-true map whole t))))
+    (λ t. le-leb map whole (rw e (le-ones n (ltb-true map (2 ^ n) t))))
 
 module _ (bits : ℕ) (short : bits ≤ addressBits) where
   mask-eq : 2 ^ addressBits - hosts bits ≡ 2 ^ (bits + (addressBits - bits)) - 2 ^ (addressBits - bits)
@@ -77,10 +105,3 @@ module _ (bits : ℕ) (short : bits ≤ addressBits) where
       (same-test (a / H * H) (b / H * H) (a / H) (b / H)
       (eq-of-mul-eq-mul-right H (hosts-some bits) (a / H) (b / H))
       (ap (λ (n : ℕ). n * H)))
-
-  pub zero-masked : (m a : ℕ) → m ≡ 2 ^ addressBits - hosts bits → a < 2 ^ addressBits → eqb (bitAnd a m) a ≡ zeroPast bits a
-  unfolding zeroPast
-  zero-masked m a e h =
-      let H : ℕ = hosts bits in
-      let whole : a / H * H + a % H ≡ a = div-add-mod' a H in
-      rw (masked m a e h) (same-test (a / H * H) a (a % H) 0 (λ q. omega arith) (λ q. omega arith))

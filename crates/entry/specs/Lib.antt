@@ -2,3 +2,4 @@
 pub mod Prefix
 pub mod Interface
 pub mod Route
+pub mod Inside

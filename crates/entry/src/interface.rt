@@ -51,13 +51,13 @@ pub fn is_boundary(i: Interface) -> bool
     i.flags / 2 % 2 == 1
 }
 
-// Whether an interface keeps every rule on it.
-pub fn interface_ok(i: Interface) -> bool
-    ensures { λ r. ⌜ r ≡ interfaceOk i ⌝ }
+// Whether the interface whose bytes begin at `at` keeps every rule on it: what no rule looks at is not read.
+pub fn interface_ok(s: &[u8], at: usize) -> bool
+    requires { ⌜ at + interfaceSize ≤ length (now s) ⌝ }
+    ensures { λ r. ⌜ r ≡ interfaceOk (interfaceAt (now (s .entry)) at) ⌝ }
 {
-    wire::unicast(i.address)
-        & (1 <= i.length)
-        & (i.length <= ADDRESS_BITS)
-        & (i.flags <= 3)
-        & (i.zero == 0)
+    if !wire::unicast(wire::be32(s, at)) {
+        return false;
+    }
+    (1 <= s[at + 4]) & (s[at + 4] <= ADDRESS_BITS) & (s[at + 5] <= 3) & (s[at + 7] == 0)
 }

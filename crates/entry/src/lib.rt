@@ -27,3 +27,4 @@ pub use route::prune_sent;
 pub use route::route_at;
 pub use route::route_ok;
 pub use route::source_at;
+pub use route::whole_map;

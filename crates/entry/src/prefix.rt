@@ -6,6 +6,9 @@ ghost use Rattle.entry.specs.Prefix.{addressBits, hosts, samePrefix, zer
 // Bits of an address.
 pub const ADDRESS_BITS: u8 = 32;
 
+// How many addresses there are.
+const ADDRESSES: u64 = 4294967296;
+
 // Ones in the first bits. No bits have a line of their own, where the shift would be as wide as an address.
 fn mask(bits: u8) -> u32
     requires { ⌜ bits ≤ addressBits ⌝ }
@@ -26,12 +29,12 @@ pub fn same_prefix(bits: u8, a: u32, b: u32) -> bool
     a & m == b & m
 }
 
-// Whether the bits past the first are zero.
+// Whether the bits past the first are zero: shifted up by as many as the first are, an address leaves nothing of itself but them.
 pub fn zero_past(bits: u8, a: u32) -> bool
     ensures { λ r. ⌜ r ≡ zeroPast bits a ⌝ }
 {
     if ADDRESS_BITS < bits {
         return true;
     }
-    a & mask(bits) == a
+    ((a as u64) << bits) % ADDRESSES == 0
 }

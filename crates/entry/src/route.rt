@@ -3,10 +3,12 @@ use crate::interface::MOST_INTERFACES;
 use crate::prefix::ADDRESS_BITS;
 use crate::prefix::zero_past;
 ghost use mathlib.Core.Path.{_≡_};
-ghost use Prim.Native.Nat.{_+_, _≤_, _<_};
+ghost use mathlib.Core.Bool.{_&&_};
+ghost use Prim.Native.Nat.{_+_, _-_, _^_, _≤_, _<_};
 ghost use lib.ListN.{length};
 ghost use Rattle.entry.specs.Interface.{mostInterfaces};
-ghost use Rattle.entry.specs.Route.{routeSize, routeAt, isRp, pruneSent, inMap, routeOk, kindOk, lengthOk, flagsOk, groupOk, incomingOk, upstreamOk, mapOk};
+ghost use Rattle.entry.specs.Route.{routeSize, routeAt, isRp, pruneSent, inMap, routeOk, kindOk, lengthOk, flagsOk, groupOk};
+ghost use Rattle.entry.specs.Inside.{fitsKind, zerosOk, upwardOk, mapsOk};
 
 // Bytes of a route entry.
 pub const ROUTE_SIZE: usize = 56;
@@ -22,6 +24,9 @@ pub const SOURCE_ONLY: u8 = 3;
 
 // The number of an incoming interface that is not known.
 pub const UNKNOWN: u16 = 65535;
+
+// A map of 64 interfaces.
+const ALL_BITS: u64 = 18446744073709551615;
 
 pub struct Route {
     pub kind: u8,
@@ -119,12 +124,6 @@ pub fn in_map(map: u64, i: usize) -> bool
     (map >> i) % 2 == 1
 }
 
-fn kind_ok(kind: u8) -> bool
-    ensures { λ r. ⌜ r ≡ kindOk kind ⌝ }
-{
-    (SOURCE_AND_GROUP <= kind) & (kind <= SOURCE_ONLY)
-}
-
 fn length_ok(kind: u8, bits: u8) -> bool
     ensures { λ r. ⌜ r ≡ lengthOk kind bits ⌝ }
 {
@@ -145,43 +144,96 @@ fn group_ok(kind: u8, group: u32) -> bool
     ((kind == SOURCE_ONLY) & (group == 0)) | ((kind != SOURCE_ONLY) & wire::multicast(group))
 }
 
-fn incoming_ok(interfaces: u16, incoming: u16) -> bool
-    ensures { λ r. ⌜ r ≡ incomingOk interfaces incoming ⌝ }
+// Whether length, flags and group are right for a kind.
+fn fits_kind(kind: u8, bits: u8, flags: u8, group: u32) -> bool
+    ensures { λ r. ⌜ r ≡ fitsKind kind bits flags group ⌝ }
 {
-    (incoming < interfaces) | (incoming == UNKNOWN)
+    length_ok(kind, bits) & flags_ok(kind, flags) & group_ok(kind, group)
 }
 
-fn upstream_ok(incoming: u16, upstream: u32) -> bool
-    ensures { λ r. ⌜ r ≡ upstreamOk incoming upstream ⌝ }
+// Whether the kind is one of the three, and they are right for it. Each kind is named in a call of its own, where the compiler
+// leaves the tests of that kind alone.
+fn kind_ok(kind: u8, bits: u8, flags: u8, group: u32) -> bool
+    ensures { λ r. ⌜ r ≡ (kindOk kind && fitsKind kind bits flags group) ⌝ }
 {
-    (upstream == 0) | ((incoming != UNKNOWN) & (wire::unicast(upstream) | wire::all_ones(upstream)))
+    if kind == SOURCE_AND_GROUP {
+        return fits_kind(SOURCE_AND_GROUP, bits, flags, group);
+    }
+    if kind == GROUP_ONLY {
+        return fits_kind(GROUP_ONLY, bits, flags, group);
+    }
+    if kind == SOURCE_ONLY {
+        return fits_kind(SOURCE_ONLY, bits, flags, group);
+    }
+    false
 }
 
-fn map_ok(interfaces: u16, map: u64) -> bool
-    requires { ⌜ interfaces ≤ mostInterfaces ⌝ }
-    ensures { λ r. ⌜ r ≡ mapOk interfaces map ⌝ }
+// Whether all is zero that must be.
+fn zeros_ok(s: &[u8], at: usize) -> bool
+    requires { ⌜ at + routeSize ≤ length (now s) ⌝ }
+    ensures { λ r. ⌜ r ≡ zerosOk (routeAt (now (s .entry)) at) ⌝ }
 {
-    if interfaces as usize == MOST_INTERFACES {
+    if (s[at + 3] != 0) | (wire::be16(s, at + 22) != 0) {
+        return false;
+    }
+    zero_past(s[at + 1], wire::be32(s, at + 4))
+}
+
+// Whether incoming interface and upstream are right. Most upstreams are unicast by their first octet, and no more of them is read.
+fn upward_ok(s: &[u8], at: usize, interfaces: u16) -> bool
+    requires { ⌜ (at + routeSize ≤ length (now s)) × (interfaces ≤ mostInterfaces) ⌝ }
+    ensures { λ r. ⌜ r ≡ upwardOk interfaces (routeAt (now (s .entry)) at) ⌝ }
+{
+    let incoming = wire::be16(s, at + 16);
+    if interfaces <= incoming {
+        return (incoming == UNKNOWN) & (wire::be32(s, at + 12) == 0);
+    }
+    if wire::unicast(wire::be32(s, at + 12)) {
         return true;
     }
-    map < 1 << interfaces
+    let upstream = wire::be32(s, at + 12);
+    (upstream == 0) | wire::all_ones(upstream)
 }
 
-// Whether a route keeps every rule on it, where there are so many interfaces.
-pub fn route_ok(interfaces: u16, r: Route) -> bool
+// The map of all interfaces, where there are so many.
+pub fn whole_map(interfaces: u16) -> u64
     requires { ⌜ interfaces ≤ mostInterfaces ⌝ }
-    ensures { λ ok. ⌜ ok ≡ routeOk interfaces r ⌝ }
+    ensures { λ r. ⌜ r ≡ 2 ^ interfaces - 1 ⌝ }
 {
-    kind_ok(r.kind)
-        & length_ok(r.kind, r.length)
-        & flags_ok(r.kind, r.flags)
-        & (r.zero == 0)
-        & (r.zeros == 0)
-        & zero_past(r.length, r.source)
-        & group_ok(r.kind, r.group)
-        & upstream_ok(r.incoming, r.upstream)
-        & incoming_ok(interfaces, r.incoming)
-        & map_ok(interfaces, r.forward)
-        & map_ok(interfaces, r.pruned)
-        & map_ok(interfaces, r.stopped)
+    if interfaces as usize == MOST_INTERFACES {
+        return ALL_BITS;
+    }
+    (1 << interfaces) - 1
+}
+
+// Whether no map has a bit past `whole`, the map of all interfaces. They are looked at one after the other: each is then one load.
+fn maps_ok(s: &[u8], at: usize, interfaces: u16, whole: u64) -> bool
+    requires { ⌜ (at + routeSize ≤ length (now s)) × (whole ≡ 2 ^ interfaces - 1) ⌝ }
+    ensures { λ r. ⌜ r ≡ mapsOk interfaces (routeAt (now (s .entry)) at) ⌝ }
+{
+    if whole < wire::be64(s, at + 32) {
+        return false;
+    }
+    if whole < wire::be64(s, at + 40) {
+        return false;
+    }
+    wire::be64(s, at + 48) <= whole
+}
+
+// Whether the route whose bytes begin at `at` keeps every rule on it, where there are so many interfaces; `whole` is their map. It
+// is left at the first rule that it breaks, and what no rule looks at is not read.
+pub fn route_ok(s: &[u8], at: usize, interfaces: u16, whole: u64) -> bool
+    requires { ⌜ (at + routeSize ≤ length (now s)) × (interfaces ≤ mostInterfaces) × (whole ≡ 2 ^ interfaces - 1) ⌝ }
+    ensures { λ ok. ⌜ ok ≡ routeOk interfaces (routeAt (now (s .entry)) at) ⌝ }
+{
+    if !kind_ok(kind_at(s, at), length_at(s, at), s[at + 2], group_at(s, at)) {
+        return false;
+    }
+    if !zeros_ok(s, at) {
+        return false;
+    }
+    if !upward_ok(s, at, interfaces) {
+        return false;
+    }
+    maps_ok(s, at, interfaces, whole)
 }

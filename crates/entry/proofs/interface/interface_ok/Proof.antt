@@ -1,12 +1,31 @@
--- `interface_ok`: the rules of the definition, with the callee's answer.
-use Rattle.entry.specs.Interface.{interfaceOk}
+-- `interface_ok`: the address first; then the tests that are left.
+use Rattle.entry.specs.Interface.{interfaceAt}
+use Rattle.entry.proofs.Rules.{not-unicast, as-others}
 use borrow.Author.Needs.{needs}
 use Rattle.entry.proofs.interface.interface_ok.Statement.{statement}
 use Rattle.entry.proofs.interface.interface_ok.Tie as tie
 
 returns : tie.Need-returns
-unfolding interfaceOk
-returns c = cc
+unfolding interfaceAt
+returns c = search not-unicast
+
+returns-2 : tie.Need-returns-2
+unfolding interfaceAt
+returns-2 c = search as-others
 
 pub interface-ok-spec : {M : Type 1} → statement M
-interface-ok-spec = tie.close (tie.spec (λ c κs. search needs) returns)
+interface-ok-spec =
+    tie.close
+    (tie.spec
+    (λ c κs. search needs)
+    (λ c κs. search needs)
+    returns
+    (λ c. search needs)
+    (λ c. search needs)
+    (λ c. search needs)
+    (λ c. search needs)
+    (λ c. search needs)
+    (λ c. search needs)
+    (λ c. search needs)
+    (λ c. search needs)
+    returns-2)

@@ -1,5 +1,5 @@
--- `zero_past`: the mask leaves an address as it is where the bits past the length are zero.
-use Rattle.entry.proofs.Masks.{none-past, zero-masked}
+-- `zero_past`: past all of an address there is no bit; else what the shift leaves is the bits past the length.
+use Rattle.entry.proofs.Masks.{none-past, shifted-past}
 use borrow.Author.Needs.{needs}
 use Rattle.entry.proofs.prefix.zero_past.Statement.{statement}
 use Rattle.entry.proofs.prefix.zero_past.Tie as tie
@@ -8,7 +8,7 @@ returns : tie.Need-returns
 returns c = search none-past
 
 returns-2 : tie.Need-returns-2
-returns-2 c = search (zero-masked, needs)
+returns-2 c = search (shifted-past, needs)
 
 pub zero-past-spec : {M : Type 1} → statement M
-zero-past-spec = tie.close (tie.spec returns (λ c κs. search needs) returns-2)
+zero-past-spec = tie.close (tie.spec returns (λ c. search needs) returns-2)
