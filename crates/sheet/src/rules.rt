@@ -30,34 +30,40 @@ fn switches_ok(number: u16, switches: u16) -> bool
     (switches == 0) | ((number == 0) & (switches == PROHIBITS))
 }
 
-// Whether the first `used` interfaces of a block keep their rules.
+// Whether the first `used` interfaces of a block keep their rules: it is left at the first that does not.
 fn interfaces_ok(b: &[u8], used: usize) -> bool
     requires { ⌜ (length (now b) ≡ blockSize) × (used ≤ entriesEach interfaceSize) ⌝ }
     ensures { λ r. ⌜ r ≡ entriesOk interfaceSize interfaceRight (now (b .entry)) used ⌝ }
 {
-    let mut ok = true;
     let mut j: usize = 0;
     while j < used {
-        let at = block::ENTRIES_AT + entry::INTERFACE_SIZE * j;
-        ok = ok & entry::interface_ok(entry::interface_at(b, at));
+        if !entry::interface_ok(b, block::ENTRIES_AT + entry::INTERFACE_SIZE * j) {
+            return false;
+        }
         j += 1;
     }
-    ok
+    true
 }
 
-// Whether the first `used` routes of a block keep their rules.
+// Whether the first `used` routes of a block keep theirs, where there are so many interfaces.
 fn routes_ok(b: &[u8], used: usize, interfaces: u16) -> bool
     requires { ⌜ (length (now b) ≡ blockSize) × (used ≤ entriesEach routeSize) × (interfaces ≤ mostInterfaces) ⌝ }
     ensures { λ r. ⌜ r ≡ entriesOk routeSize (routeRight interfaces) (now (b .entry)) used ⌝ }
 {
-    let mut ok = true;
+    let whole = entry::whole_map(interfaces);
     let mut j: usize = 0;
     while j < used {
-        let at = block::ENTRIES_AT + entry::ROUTE_SIZE * j;
-        ok = ok & entry::route_ok(interfaces, entry::route_at(b, at));
+        if !entry::route_ok(
+            b,
+            block::ENTRIES_AT + entry::ROUTE_SIZE * j,
+            interfaces,
+            whole,
+        ) {
+            return false;
+        }
         j += 1;
     }
-    ok
+    true
 }
 
 // Whether a block is an interface block that keeps its rules.

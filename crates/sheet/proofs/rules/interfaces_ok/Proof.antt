@@ -1,32 +1,34 @@
--- `interfaces_ok`: after j turns the first j interfaces are tested.
+-- `interfaces_ok`: the first j interfaces keep their rules.
 use Prim.Native.Nat.{_-_, _≤_}
+use mathlib.Core.Bool.{true}
 use mathlib.Core.Path.{_≡_, refl}
 use native.Mathlib.Omega.{arith}
-use native.Mathlib.Numerals.{add-one}
 use borrow.Author.Needs.{needs}
 use Rattle.sheet.specs.Every.{every}
 use Rattle.sheet.specs.Rules.{interfaceRight, entriesOk}
 use Rattle.entry.specs.Interface.{interfaceSize}
-use Rattle.sheet.proofs.Numbered.{every-all}
+use Rattle.sheet.proofs.Numbered.{every-stops, every-goes-on, every-done}
 use Rattle.sheet.proofs.rules.interfaces_ok.Statement.{statement}
 use Rattle.sheet.proofs.rules.interfaces_ok.Tie as tie
 
 abbrev Inv-loop : tie.InvT-loop
-Inv-loop b used ok₀ j₀ ok j = (j ≤ used) × (ok ≡ entriesOk interfaceSize interfaceRight b j)
+Inv-loop b used j₀ j = (j ≤ used) × (entriesOk interfaceSize interfaceRight b j ≡ true)
 
 abbrev μ-loop : tie.MeasureT-loop
-μ-loop b used ok₀ j₀ ok j = used - j
+μ-loop b used j₀ j = used - j
 
 loop-holds : tie.Need-loop-holds Inv-loop μ-loop
 unfolding every
 loop-holds c = (omega arith, refl)
 
-loop-again : tie.Need-loop-again Inv-loop μ-loop
-unfolding every
-loop-again c = (omega arith, simp (add-one, c .before .before .before .loop .inv .1, c .interface-ok .ensures, c .before .interface-at .ensures))
-
 returns : tie.Need-returns Inv-loop μ-loop
-returns c = search every-all
+returns c = search every-stops
+
+loop-again : tie.Need-loop-again Inv-loop μ-loop
+loop-again c = (omega arith, search every-goes-on)
+
+returns-2 : tie.Need-returns-2 Inv-loop μ-loop
+returns-2 c = search every-done
 
 pub interfaces-ok-spec : {M : Type 1} → statement M
 interfaces-ok-spec =
@@ -38,8 +40,8 @@ interfaces-ok-spec =
     (λ c. omega arith)
     (λ c. omega arith)
     (λ c κs. omega arith)
-    (λ c κs. search needs)
+    returns
     (λ c. omega arith)
     (λ c. omega arith)
     loop-again
-    returns)
+    returns-2)

@@ -1,31 +1,34 @@
--- `routes_ok`: after j turns the first j routes are tested.
+-- `routes_ok`: the first j routes keep their rules.
 use Prim.Native.Nat.{_-_, _≤_}
+use mathlib.Core.Bool.{true}
 use mathlib.Core.Path.{_≡_, refl}
 use native.Mathlib.Omega.{arith}
-use native.Mathlib.Numerals.{add-one}
+use borrow.Author.Needs.{needs}
 use Rattle.sheet.specs.Every.{every}
 use Rattle.sheet.specs.Rules.{routeRight, entriesOk}
 use Rattle.entry.specs.Route.{routeSize}
-use Rattle.sheet.proofs.Numbered.{every-all}
+use Rattle.sheet.proofs.Numbered.{every-stops, every-goes-on, every-done}
 use Rattle.sheet.proofs.rules.routes_ok.Statement.{statement}
 use Rattle.sheet.proofs.rules.routes_ok.Tie as tie
 
 abbrev Inv-loop : tie.InvT-loop
-Inv-loop b used interfaces ok₀ j₀ ok j = (j ≤ used) × (ok ≡ entriesOk routeSize (routeRight interfaces) b j)
+Inv-loop b used interfaces whole j₀ j = (j ≤ used) × (entriesOk routeSize (routeRight interfaces) b j ≡ true)
 
 abbrev μ-loop : tie.MeasureT-loop
-μ-loop b used interfaces ok₀ j₀ ok j = used - j
+μ-loop b used interfaces whole j₀ j = used - j
 
 loop-holds : tie.Need-loop-holds Inv-loop μ-loop
 unfolding every
 loop-holds c = (omega arith, refl)
 
-loop-again : tie.Need-loop-again Inv-loop μ-loop
-unfolding every
-loop-again c = (omega arith, simp (add-one, c .before .before .before .loop .inv .1, c .route-ok .ensures, c .before .route-at .ensures))
-
 returns : tie.Need-returns Inv-loop μ-loop
-returns c = search every-all
+returns c = search every-stops
+
+loop-again : tie.Need-loop-again Inv-loop μ-loop
+loop-again c = (omega arith, search every-goes-on)
+
+returns-2 : tie.Need-returns-2 Inv-loop μ-loop
+returns-2 c = search every-done
 
 pub routes-ok-spec : {M : Type 1} → statement M
 routes-ok-spec =
@@ -33,12 +36,13 @@ routes-ok-spec =
     (tie.spec
     Inv-loop
     μ-loop
+    (λ c κs. search needs)
     loop-holds
     (λ c. omega arith)
     (λ c. omega arith)
-    (λ c κs. omega arith)
-    (λ c κs. omega arith)
+    (λ c κs. search needs)
+    returns
     (λ c. omega arith)
     (λ c. omega arith)
     loop-again
-    returns)
+    returns-2)
