@@ -50,11 +50,11 @@ zeros-wrong r zeros told e = rw (← told) (by-flags (eqb (r .zero) 0) (eqb zero
   by-flags true false v e = refl
   by-flags false u v e = refl
 
-pub zeros-right : (r : Route) (zeros source : ℕ) (past : Bool) → zeros ≡ r .zeros → source ≡ r .source
-    → (not (eqb (r .zero) 0) || not (eqb zeros 0)) ≡ false → past ≡ zeroPast (r .length) source → past ≡ zerosOk r
-zeros-right r zeros source past ez es e f =
+pub zeros-right : (r : Route) (zeros bits source : ℕ) (past : Bool) → zeros ≡ r .zeros → bits ≡ r .length → source ≡ r .source
+    → (not (eqb (r .zero) 0) || not (eqb zeros 0)) ≡ false → past ≡ zeroPast bits source → past ≡ zerosOk r
+zeros-right r zeros bits source past ez eb es e f =
     let p = neither-of (not (eqb (r .zero) 0)) (not (eqb zeros 0)) e in
-    rw (← ez, ← es, not-false (eqb (r .zero) 0) (p .0), not-false (eqb zeros 0) (p .1)) f
+    rw (← ez, ← eb, ← es, not-false (eqb (r .zero) 0) (p .0), not-false (eqb zeros 0) (p .1)) f
 
 -- the incoming interface is none of these; or one of them, with an upstream that is unicast, or not
 module _ (interfaces : ℕ) (r : Route) (incoming upstream : ℕ) (ei : incoming ≡ r .incoming) (eu : upstream ≡ r .upstream) where

@@ -46,31 +46,7 @@ pub struct Route {
     pub stopped: u64,
 }
 
-// The route whose bytes begin at `at`.
-pub fn route_at(s: &[u8], at: usize) -> Route
-    requires { ⌜ at + routeSize ≤ length (now s) ⌝ }
-    ensures { λ r. ⌜ r ≡ routeAt (now (s .entry)) at ⌝ }
-{
-    Route {
-        kind: s[at],
-        length: s[at + 1],
-        flags: s[at + 2],
-        zero: s[at + 3],
-        source: wire::be32(s, at + 4),
-        group: wire::be32(s, at + 8),
-        upstream: wire::be32(s, at + 12),
-        incoming: wire::be16(s, at + 16),
-        protocol: wire::be16(s, at + 18),
-        multicast: wire::be16(s, at + 20),
-        zeros: wire::be16(s, at + 22),
-        packets: wire::be64(s, at + 24),
-        forward: wire::be64(s, at + 32),
-        pruned: wire::be64(s, at + 40),
-        stopped: wire::be64(s, at + 48),
-    }
-}
-
-// Its kind by itself. The choice of a route looks at four fields of each, and reads no other.
+// The kind of the route whose bytes begin at `at`. The choice of a route looks at this and the next three fields, and reads no other.
 pub fn kind_at(s: &[u8], at: usize) -> u8
     requires { ⌜ at + routeSize ≤ length (now s) ⌝ }
     ensures { λ r. ⌜ r ≡ routeAt (now (s .entry)) at .kind ⌝ }
@@ -100,6 +76,30 @@ pub fn group_at(s: &[u8], at: usize) -> u32
     ensures { λ r. ⌜ r ≡ routeAt (now (s .entry)) at .group ⌝ }
 {
     wire::be32(s, at + 8)
+}
+
+// The route whose bytes begin at `at`.
+pub fn route_at(s: &[u8], at: usize) -> Route
+    requires { ⌜ at + routeSize ≤ length (now s) ⌝ }
+    ensures { λ r. ⌜ r ≡ routeAt (now (s .entry)) at ⌝ }
+{
+    Route {
+        kind: kind_at(s, at),
+        length: length_at(s, at),
+        flags: s[at + 2],
+        zero: s[at + 3],
+        source: source_at(s, at),
+        group: group_at(s, at),
+        upstream: wire::be32(s, at + 12),
+        incoming: wire::be16(s, at + 16),
+        protocol: wire::be16(s, at + 18),
+        multicast: wire::be16(s, at + 20),
+        zeros: wire::be16(s, at + 22),
+        packets: wire::be64(s, at + 24),
+        forward: wire::be64(s, at + 32),
+        pruned: wire::be64(s, at + 40),
+        stopped: wire::be64(s, at + 48),
+    }
 }
 
 // Whether the RP flag is set.
@@ -176,7 +176,7 @@ fn zeros_ok(s: &[u8], at: usize) -> bool
     if (s[at + 3] != 0) | (wire::be16(s, at + 22) != 0) {
         return false;
     }
-    zero_past(s[at + 1], wire::be32(s, at + 4))
+    zero_past(length_at(s, at), source_at(s, at))
 }
 
 // Whether incoming interface and upstream are right. Most upstreams are unicast by their first octet, and no more of them is read.
