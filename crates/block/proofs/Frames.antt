@@ -1,18 +1,21 @@
--- The frame of a block by the plain sums of its words.
+-- The frame of a block as the code looks at it: a law for each way out.
 use Prim.Native.Nat.{ℕ, _+_, _*_, _/_, _%_, _≤_, _<_}
-use mathlib.Core.Bool.{Bool, false, _&&_, and-false}
-use mathlib.Core.Path.{_≡_, refl, ap, _∙_}
+use mathlib.Core.Bool.{Bool, true, false, not, _&&_, _||_}
+use mathlib.Core.Path.{_≡_, refl, sym, ap, _∙_}
 use mathlib.Core.List.{List}
 use native.Mathlib.Omega.{arith}
 use lib.Dec.{ltb, eqb}
 use lib.ListN.{length}
-use borrow.Author.Tests.{lt-leb}
-use Rattle.wire.specs.Numbers.{byteAt, be32}
-use Rattle.block.specs.Sum.{rightSum}
-use Rattle.block.specs.Block.{blockSize, switchesAt, kindOf, usedIn, blockNumber, placeInBlock, entriesEach, filledOk, frameOk}
-use Rattle.block.specs.Inside.{wordSize, blockWords, switchesWord, words}
+use borrow.Author.Tests.{not-true, not-false}
+use Rattle.rows.proofs.Laws.{neither-of}
+use Rattle.wire.specs.Numbers.{byteAt}
+use Rattle.wire.specs.Parts.{allZero}
+use Rattle.block.specs.Sum.{rightSum, sumOk}
+use Rattle.block.specs.Block.{blockSize, switchesAt, entriesRoom, kindOf, usedIn, blockNumber, placeInBlock, entriesEach, unusedOf, filledOk, frameOk}
+use Rattle.block.specs.Inside.{wordSize, blockWords, switchesWord, wordAt, words, zeroFrom}
+use Rattle.block.proofs.Laws.{entries-fit, filled}
 use Rattle.block.proofs.Sums.{sum-plain}
-use Rattle.block.proofs.Unused.{zeros-plain}
+use Rattle.block.proofs.Unused.{none-left, words-kept}
 
 -- the entries in use end at a word, where their size is a number of words
 ends : (size used : ℕ) → size % wordSize ≡ 0 → wordSize * (placeInBlock size used / wordSize) ≡ placeInBlock size used
@@ -22,35 +25,61 @@ ends size used h =
     let p : size * used ≡ wordSize * (q * used) = omega (arith, ap (λ (n : ℕ). n * used) e) in
     omega arith
 
--- more entries than there is room for
-pub over-full : (b : List ℕ) (kind size number used : ℕ) (partly : Bool) → used ≡ usedIn b → entriesEach size < used → false ≡ frameOk kind size number partly b
-unfolding frameOk
-over-full b kind size number used partly e h = rw (← e, lt-leb used (entriesEach size) h) (simp and-false)
-
-words-front : (b : List ℕ) → words b 0 ≡ 0
-unfolding words
-words-front b = refl
-
-words-last : (b : List ℕ) → words b blockWords ≡ words b switchesWord + be32 b switchesAt
+words-last : (b : List ℕ) → words b blockWords ≡ words b switchesWord + wordAt b switchesAt
 unfolding words
 words-last b = refl
 
--- the tests of the code are those of the definition
-pub framed : (b : List ℕ) → ((i : ℕ) → byteAt b i < 256) → (kind size number used from rest head last n : ℕ) (partly full : Bool) → length b ≡ blockSize
-    → size % wordSize ≡ 0
-    → used ≡ usedIn b
-    → from ≡ placeInBlock size used / wordSize
-    → from ≤ switchesWord
-    → rest + words b from ≡ words b switchesWord
-    → head + words b 0 ≡ words b from
-    → last ≡ be32 b switchesAt
-    → n ≡ blockNumber b
-    → full ≡ filledOk (entriesEach size) partly used
-    → eqb (kindOf b) kind && full && eqb n number && eqb rest 0 && (ltb 0 (head + rest + last) && eqb ((head + rest + last) % rightSum) 0)
-    ≡ frameOk kind size number partly b
-unfolding frameOk
-framed b bytes kind size number used from rest head last n partly full long whole eu ew fits er eh el en ef =
-    let place : wordSize * from ≡ placeInBlock size used = ap (λ (w : ℕ). wordSize * w) ew ∙ ends size used whole in
-    let zs = rw place at (zeros-plain b from rest long fits er) in
-    let all : head + rest + last ≡ words b blockWords = omega (arith, words-front b, words-last b) in
-    rw (sum-plain b bytes (head + rest + last) long all, ef, ← eu, ← en, ← zs)
+-- what one look decides
+module _ (b : List ℕ) (kind size number used n : ℕ) (partly full : Bool) (eu : used ≡ usedIn b) (en : n ≡ blockNumber b)
+    (ef : full ≡ filledOk (entriesEach size) partly used) where
+  abbrev seen : Bool
+  seen = not (eqb (kindOf b) kind) || not (eqb n number) || not full
+
+  told : full ≡ filledOk (entriesEach size) partly (usedIn b)
+  told = ef ∙ ap (filledOk (entriesEach size) partly) eu
+
+  pub wrong-head : seen ≡ true → false ≡ frameOk kind size number partly b
+  unfolding frameOk
+  wrong-head e = rw (← en, ← told) (by-flags (eqb (kindOf b) kind) (eqb n number) full (allZero (unusedOf size b)) (sumOk b) e) where
+    by-flags : (k m f z s : Bool) → (not k || not m || not f) ≡ true → false ≡ (k && f && m && z && s)
+    by-flags false m f z s e = refl
+    by-flags true m false z s e = refl
+    by-flags true false true z s e = refl
+    by-flags true true true z s e = let w : _≡_ {A = ℕ} 0 1 = cc in absurd (omega arith)
+
+  module _ (right : seen ≡ false) where
+    pub in-use-fit : 0 < size → size * used ≤ entriesRoom
+    in-use-fit some =
+        let p = neither-of (not (eqb (kindOf b) kind) || not (eqb n number)) (not full) right in
+        entries-fit size used some (filled (entriesEach size) partly used (sym ef ∙ not-false full (p .1)) .most)
+
+    -- the rest: the unused bytes, and the sum
+    as-rest : frameOk kind size number partly b ≡ (allZero (unusedOf size b) && sumOk b)
+    unfolding frameOk
+    as-rest =
+        let p = neither-of (not (eqb (kindOf b) kind) || not (eqb n number)) (not full) right in
+        let q = neither-of (not (eqb (kindOf b) kind)) (not (eqb n number)) (p .0) in
+        rw (← en, ← told, not-false (eqb (kindOf b) kind) (q .0), not-false (eqb n number) (q .1), not-false full (p .1))
+
+    module _ (from : ℕ) (long : length b ≡ blockSize) (whole : size % wordSize ≡ 0) (ew : from ≡ placeInBlock size used / wordSize) where
+      unused : allZero (unusedOf size b) ≡ zeroFrom b from
+      unused = let place : wordSize * from ≡ placeInBlock size used = ap (λ (w : ℕ). wordSize * w) ew ∙ ends size used whole in rw (place, eu)
+
+      pub wrong-rest : (z : Bool) → z ≡ zeroFrom b from → not z ≡ true → false ≡ frameOk kind size number partly b
+      wrong-rest z e h = rw (as-rest, unused, ← e, not-true z h)
+
+      module _ (bytes : (i : ℕ) → byteAt b i < 256) where
+        -- no word is unused
+        pub framed-full : (sum : ℕ) (x : Bool) → from ≡ switchesWord → sum ≡ words b blockWords → x ≡ (ltb 0 sum && eqb (sum % rightSum) 0)
+            → x ≡ frameOk kind size number partly b
+        framed-full sum x e es ex = rw (as-rest, unused, e, none-left b, sum-plain b bytes sum long es) ex
+
+        -- those that are are zero, and add nothing
+        pub framed-partly : (z x : Bool) (head last : ℕ) → from ≤ switchesWord → z ≡ zeroFrom b from → not z ≡ false → head ≡ words b from → last ≡ wordAt b switchesAt
+            → x ≡ (ltb 0 (head + last) && eqb ((head + last) % rightSum) 0)
+            → x ≡ frameOk kind size number partly b
+        framed-partly z x head last fits ez h eh el ex =
+            let zeros : zeroFrom b from ≡ true = sym ez ∙ not-false z h in
+            let same : words b switchesWord ≡ words b from = words-kept b from long fits zeros in
+            let all : head + last ≡ words b blockWords = omega (arith, words-last b) in
+            rw (as-rest, unused, zeros, sum-plain b bytes (head + last) long all) ex

@@ -20,7 +20,7 @@ pub record InUse (each : ℕ) (partly : Bool) (used : ℕ) : Type 0 where
   pub most : used ≤ each
   pub full : partly ≡ false → used ≡ each
 
-filled : (each : ℕ) (partly : Bool) (used : ℕ) → filledOk each partly used ≡ true → InUse each partly used
+pub filled : (each : ℕ) (partly : Bool) (used : ℕ) → filledOk each partly used ≡ true → InUse each partly used
 filled each partly used e =
     let p = both-of (leb 1 used && leb used each) (partly || eqb used each) e in
     let q = both-of (leb 1 used) (leb used each) (p .0) in

@@ -1,38 +1,36 @@
--- The plain sum of the 32-bit words, joined to the sum of RFC 1071: end-around carry takes multiples of 0xFFFF away.
-use Prim.Native.Nat.{ℕ, zero, suc, _+_, _*_, _/_, _%_, _≤_, _<_}
+-- The plain sum of the 32-bit words in memory's order, joined to the sum of RFC 1071: end-around carry takes multiples of 0xFFFF
+-- away, and so the order of bytes does not matter.
+use Prim.Native.Nat.{ℕ, zero, suc, _+_, _*_, _-_, _/_, _%_, _≤_, _<_}
 use mathlib.Core.Bool.{_&&_}
 use mathlib.Core.Path.{_≡_, refl, ap, _∙_}
 use mathlib.Core.List.{List, _∷_}
 use native.Mathlib.Omega.{arith}
-use native.Mathlib.Numerals.{add-one, add-two, add-four}
+use native.Mathlib.Nat.{mul-mod-left}
+use native.Mathlib.Numerals.{add-one, add-two, add-three, add-four}
 use lib.Dec.{ltb, eqb}
 use lib.ListN.{length, drop, drop-of-length-le}
 use lib.Seq.{drop-cons}
 use borrow.Author.Tests.{eqb-true, eq-eqb, ltb-true, lt-ltb}
-use Rattle.wire.specs.Numbers.{byteAt, be, be32}
+use Rattle.wire.specs.Numbers.{byteAt}
 use Rattle.block.specs.Sum.{rightSum, carried, sumFrom, sumOk}
 use Rattle.block.specs.Block.{blockSize}
-use Rattle.block.specs.Inside.{wordSize, blockWords, words}
+use Rattle.block.specs.Inside.{wordSize, blockWords, wordAt, words}
 use Rattle.rows.proofs.Laws.{same-flag, both-true, both-of}
 
 -- the loop: one word more, and all of them
-pub words-more : (b : List ℕ) (sum from i x : ℕ) → sum + words b from ≡ words b i → x ≡ be32 b (wordSize * i) → sum + x + words b from ≡ words b (i + 1)
+pub words-more : (b : List ℕ) (sum i x : ℕ) → sum ≡ words b i → x ≡ wordAt b (wordSize * i) → sum + x ≡ words b (i + 1)
 unfolding words
-words-more b sum from i x e f = rw (add-one, ← e, f) (omega arith)
+words-more b sum i x e f = rw (add-one, ← e, f)
 
-pub words-all : (b : List ℕ) (sum from i to : ℕ) → sum + words b from ≡ words b i → i ≤ to → to ≤ i → sum + words b from ≡ words b to
-words-all b sum from i to e h k = let q : i ≡ to = omega arith in e ∙ ap (words b) q
+pub words-all : (b : List ℕ) (sum i to : ℕ) → sum ≡ words b i → i ≤ to → to ≤ i → sum ≡ words b to
+words-all b sum i to e h k = let q : i ≡ to = omega arith in e ∙ ap (words b) q
 
--- four bytes at the front of what is left, and the word that they are
+-- four bytes at the front of what is left
 pub four : (b : List ℕ) (at : ℕ) → at + wordSize ≤ length b
-    → drop at b ≡ byteAt b at ∷ byteAt b (at + 1) ∷ byteAt b (at + 2) ∷ byteAt b (at + 2 + 1) ∷ drop (at + wordSize) b
+    → drop at b ≡ byteAt b at ∷ byteAt b (at + 1) ∷ byteAt b (at + 2) ∷ byteAt b (at + 3) ∷ drop (at + wordSize) b
 four b at h =
     rw (drop-cons b at 0 (omega arith), drop-cons b (suc at) 0 (omega arith), drop-cons b (suc (suc at)) 0 (omega arith), drop-cons b (suc (suc (suc at))) 0 (omega arith))
-    (simp (add-one, add-two, add-four))
-
-pub word : (b : List ℕ) (at : ℕ) → be32 b at ≡ (byteAt b at * 256 + byteAt b (at + 1)) * 65536 + (byteAt b (at + 2) * 256 + byteAt b (at + 2 + 1))
-unfolding be
-word b at = refl
+    (simp (add-one, add-two, add-three, add-four))
 
 -- a sum with end-around carry beside the plain one: multiples of 0xFFFF are gone, and it is 0 only where the plain one is
 record Folded (sum plain : ℕ) : Type 0 where
@@ -55,12 +53,22 @@ folded-more sum plain w f h =
       some = λ k. let l : 0 < sum + w = either-some plain sum w (f .some) k in omega arith;
     }
 
--- a word of 32 bits counts as its two halves
-folded-word : (sum plain high low : ℕ) → Folded sum plain → high < 65536 → low < 65536
-    → Folded (carried (carried (sum + high) + low)) (plain + (high * 65536 + low))
-folded-word sum plain high low f h l =
+still-some : (plain w v : ℕ) → (0 < w → 0 < v) → 0 < plain + w → 0 < plain + v
+still-some plain zero v g h = omega arith
+still-some plain (suc w) v g h = let k : 0 < v = g (omega arith) in omega arith
+
+-- two words of 16 bits more, and what is a multiple of 0xFFFF more than they are
+folded-word : (sum plain high low more times : ℕ) → Folded sum plain → high < 65536 → low < 65536 → more ≡ high + low + rightSum * times
+    → (0 < more → 0 < high + low)
+    → Folded (carried (carried (sum + high) + low)) (plain + more)
+folded-word sum plain high low more times f h l e some =
     let g = folded-more (carried (sum + high)) (plain + high) low (folded-more sum plain high f h) l in
-    record { times = g .times + high; is = omega (arith, g .is); most = g .most; some = λ k. g .some (omega arith) }
+    record {
+      times = g .times + times;
+      is = omega (arith, g .is);
+      most = g .most;
+      some = λ k. let q : 0 < plain + (high + low) = still-some plain more (high + low) some k in g .some (omega arith);
+    }
 
 -- so it is 0xFFFF where the plain one is a multiple of it, and not 0
 folded-test : (sum plain : ℕ) → Folded sum plain → eqb sum rightSum ≡ ltb 0 plain && eqb (plain % rightSum) 0
@@ -74,27 +82,52 @@ folded-test sum plain f =
     let z : plain % rightSum ≡ 0 = eqb-true (plain % rightSum) 0 (q .1) in
     eq-eqb sum rightSum (omega arith))
 
--- the sum so far, of the first n words of 32 bits: how it goes on, and what it is of their plain sum
+-- 256 is prime to 0xFFFF
+times-256 : (w : ℕ) → (ltb 0 (256 * w) && eqb (256 * w % rightSum) 0) ≡ (ltb 0 w && eqb (w % rightSum) 0)
+times-256 w =
+    same-flag (ltb 0 (256 * w) && eqb (256 * w % rightSum) 0) (ltb 0 w && eqb (w % rightSum) 0)
+    (λ e. let q = both-of (ltb 0 (256 * w)) (eqb (256 * w % rightSum) 0) e in
+    let l : 0 < 256 * w = ltb-true 0 (256 * w) (q .0) in
+    let z : 256 * w % rightSum ≡ 0 = eqb-true (256 * w % rightSum) 0 (q .1) in
+    let t : ℕ = 256 * w / rightSum in
+    let once : w ≡ (256 * t - w) * rightSum = omega arith in
+    both-true (ltb 0 w) (eqb (w % rightSum) 0) (lt-ltb 0 w (omega arith))
+    (eq-eqb (w % rightSum) 0 (ap (λ (n : ℕ). n % rightSum) once ∙ mul-mod-left (256 * t - w) rightSum)))
+    (λ e. let q = both-of (ltb 0 w) (eqb (w % rightSum) 0) e in
+    let l : 0 < w = ltb-true 0 w (q .0) in
+    let z : w % rightSum ≡ 0 = eqb-true (w % rightSum) 0 (q .1) in
+    let once : 256 * w ≡ (256 * (w / rightSum)) * rightSum = omega arith in
+    both-true (ltb 0 (256 * w)) (eqb (256 * w % rightSum) 0) (lt-ltb 0 (256 * w) (omega arith))
+    (eq-eqb (256 * w % rightSum) 0 (ap (λ (n : ℕ). n % rightSum) once ∙ mul-mod-left (256 * (w / rightSum)) rightSum)))
+
+-- the sum so far, of the first n words of 32 bits: how it goes on, and what it is of their plain sum. With its bytes in the other
+-- order each 16-bit word counts 256 times, but for multiples of 0xFFFF
 record Summed (b : List ℕ) (n : ℕ) : Type 0 where
   sum : ℕ
   along : sumFrom 0 b ≡ sumFrom sum (drop (wordSize * n) b)
-  folded : Folded sum (words b n)
+  folded : Folded sum (256 * words b n)
 
 module _ (b : List ℕ) (bytes : (i : ℕ) → byteAt b i < 256) where
   half : (i : ℕ) → byteAt b i * 256 + byteAt b (i + 1) < 65536
   half i = omega (arith, bytes i, bytes (i + 1))
 
   summed-more : (n : ℕ) → wordSize * n + wordSize ≤ length b → Summed b n → Summed b (suc n)
-  unfolding sumFrom words
+  unfolding sumFrom words wordAt
   summed-more n h p =
       let at : ℕ = wordSize * n in
       let high : ℕ = byteAt b at * 256 + byteAt b (at + 1) in
-      let low : ℕ = byteAt b (at + 2) * 256 + byteAt b (at + 2 + 1) in
+      let low : ℕ = byteAt b (at + 2) * 256 + byteAt b (at + 3) in
+      let more : ℕ = 256 * wordAt b at in
+      let times : ℕ = byteAt b (at + 1) + 256 * byteAt b (at + 2) + 65537 * byteAt b (at + 3) in
       let e : wordSize * suc n ≡ at + wordSize = omega arith in
+      let all : 256 * words b (suc n) ≡ 256 * words b n + more = omega arith in
+      let last : byteAt b (at + 2 + 1) ≡ byteAt b (at + 3) = let q : at + 2 + 1 ≡ at + 3 = omega arith in ap (byteAt b) q in
       record {
         sum = carried (carried (p .sum + high) + low);
         along = p .along ∙ rw (e, four b at h);
-        folded = rw (word b at) (folded-word (p .sum) (words b n) high low (p .folded) (half at) (half (at + 2)));
+        folded =
+            rw all
+            (folded-word (p .sum) (256 * words b n) high low more times (p .folded) (half at) (rw last at (half (at + 2))) (omega arith) (λ k. omega arith));
       }
 
   summed : (n : ℕ) → wordSize * n ≤ length b → Summed b n
@@ -107,4 +140,4 @@ module _ (b : List ℕ) (bytes : (i : ℕ) → byteAt b i < 256) where
   unfolding sumOk sumFrom
   sum-plain w long e =
       let p = summed blockWords (omega arith) in
-      rw (p .along, drop-of-length-le b {i = blockSize} (omega arith), e) (folded-test (p .sum) (words b blockWords) (p .folded))
+      rw (p .along, drop-of-length-le b {i = blockSize} (omega arith), e) (folded-test (p .sum) (256 * words b blockWords) (p .folded) ∙ times-256 (words b blockWords))

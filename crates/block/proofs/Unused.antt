@@ -1,62 +1,89 @@
--- Unused bytes by the plain sum of their words: it is 0 where they are all zero.
+-- Unused bytes by an OR of their words: it is 0 where they are all zero.
 use Prim.Native.Nat.{ℕ, zero, suc, _+_, _*_, _-_, _≤_, _<_}
-use mathlib.Core.Bool.{_&&_}
+use mathlib.Core.Bool.{Bool, true, _&&_, and-true, and-assoc}
 use mathlib.Core.List.{List}
-use mathlib.Core.Path.{_≡_, refl, ap, _∙_}
+use mathlib.Core.Path.{_≡_, refl, sym, ap, _∙_}
 use native.Mathlib.Omega.{arith}
-use native.Mathlib.Nat.{add-zero, zero-add}
+use native.Mathlib.Nat.{add-zero}
+use native.Mathlib.Numerals.{add-one}
+use lib.Bits.{bitOr, bitAnd, or-add-and, and-le-l, and-le-r}
 use lib.Dec.{eqb}
-use lib.ListN.{length, take, drop}
-use borrow.Author.Tests.{ne-eqb}
-use Rattle.wire.specs.Numbers.{byteAt, be32}
-use Rattle.wire.specs.Parts.{part, allZero}
+use lib.ListN.{length}
+use borrow.Author.Tests.{eqb-true, eq-eqb, ne-eqb}
+use Rattle.rows.proofs.Laws.{same-flag, both-true, both-of}
+use Rattle.wire.specs.Numbers.{byteAt}
+use Rattle.wire.specs.Parts.{allZero}
 use Rattle.block.specs.Block.{blockSize, switchesAt}
-use Rattle.block.specs.Inside.{wordSize, switchesWord, words}
-use Rattle.block.proofs.Sums.{four, word}
+use Rattle.block.specs.Inside.{wordSize, switchesWord, wordAt, words, zeroFrom}
+use Rattle.block.proofs.Sums.{four}
+
+-- an OR is 0 where both are
+or-none : (a b : ℕ) → eqb (bitOr a b) 0 ≡ (eqb a 0 && eqb b 0)
+or-none a b =
+    let both : bitOr a b + bitAnd a b ≡ a + b = or-add-and a b in
+    let least : bitAnd a b ≤ a = and-le-l a b in
+    let less : bitAnd a b ≤ b = and-le-r a b in
+    same-flag (eqb (bitOr a b) 0) (eqb a 0 && eqb b 0)
+    (λ e. let z : bitOr a b ≡ 0 = eqb-true (bitOr a b) 0 e in both-true (eqb a 0) (eqb b 0) (eq-eqb a 0 (omega arith)) (eq-eqb b 0 (omega arith)))
+    (λ e. let p = both-of (eqb a 0) (eqb b 0) e in
+    let x : a ≡ 0 = eqb-true a 0 (p .0) in
+    let y : b ≡ 0 = eqb-true b 0 (p .1) in
+    eq-eqb (bitOr a b) 0 (omega arith))
 
 -- a sum by weights is 0 where its terms are
-weighed : (k x y : ℕ) → 0 < k → eqb (k * x + y) 0 ≡ eqb x 0 && eqb y 0
+weighed : (k x y : ℕ) → 0 < k → eqb (k * x + y) 0 ≡ (eqb x 0 && eqb y 0)
 weighed k zero y h = let e : k * 0 + y ≡ y = omega arith in rw e
 weighed k (suc x) y h = ne-eqb (k * suc x + y) 0 (λ e. omega arith) ∙ rw (ne-eqb (suc x) 0 (λ e. omega arith))
 
--- the plain sum of n words, taken from the front
-span : List ℕ → ℕ → ℕ → ℕ
-span b from zero = 0
-span b from (suc n) = be32 b (wordSize * from) + span b (suc from) n
-
-span-words : (b : List ℕ) (n from : ℕ) → span b from n + words b from ≡ words b (from + n)
-unfolding span words
-span-words b zero from = simp (add-zero, zero-add)
-span-words b (suc n) from = let e : from + suc n ≡ suc from + n = omega arith in rw e (omega (arith, span-words b n (suc from)))
-
--- it is 0 where every byte there is zero
-span-zeros : (b : List ℕ) (n from : ℕ) → wordSize * (from + n) ≤ length b → eqb (span b from n) 0 ≡ allZero (take (wordSize * n) (drop (wordSize * from) b))
-unfolding span allZero
-span-zeros b zero from h = refl
-span-zeros b (suc n) from h =
-    let at : ℕ = wordSize * from in
-    let y : ℕ = span b (suc from) n in
-    let bytes : wordSize * suc n ≡ suc (suc (suc (suc (wordSize * n)))) = omega arith in
-    let next : at + wordSize ≡ wordSize * suc from = omega arith in
-    let split : be32 b at + y ≡ 16777216 * byteAt b at + (65536 * byteAt b (at + 1) + (256 * byteAt b (at + 2) + (1 * byteAt b (at + 2 + 1) + y))) = omega (arith, word b at) in
+-- so a word is 0 where its bytes are
+word-none : (b : List ℕ) (at : ℕ)
+    → eqb (wordAt b at) 0 ≡ (eqb (byteAt b at) 0 && (eqb (byteAt b (at + 1)) 0 && (eqb (byteAt b (at + 2)) 0 && (eqb (byteAt b (at + 3)) 0 && true))))
+unfolding wordAt
+word-none b at =
+    let split : wordAt b at ≡ 1 * byteAt b at + (256 * byteAt b (at + 1) + (65536 * byteAt b (at + 2) + (16777216 * byteAt b (at + 3) + 0))) = omega arith in
     rw (
-      bytes,
-      four b at (omega arith),
-      next,
       split,
-      weighed 16777216 (byteAt b at) _ (omega arith),
-      weighed 65536 (byteAt b (at + 1)) _ (omega arith),
-      weighed 256 (byteAt b (at + 2)) _ (omega arith),
-      weighed 1 (byteAt b (at + 2 + 1)) y (omega arith),
-      ← span-zeros b n (suc from) (omega arith),
+      weighed 1 (byteAt b at) _ (omega arith),
+      weighed 256 (byteAt b (at + 1)) _ (omega arith),
+      weighed 65536 (byteAt b (at + 2)) _ (omega arith),
+      weighed 16777216 (byteAt b (at + 3)) 0 (omega arith),
     )
 
--- a sum of words up to the switches is 0 where the bytes there are zero
-pub zeros-plain : (b : List ℕ) (from sum : ℕ) → length b ≡ blockSize → from ≤ switchesWord → sum + words b from ≡ words b switchesWord
-    → eqb sum 0 ≡ allZero (part (wordSize * from) (switchesAt - wordSize * from) b)
-zeros-plain b from sum long h e =
-    let n : ℕ = switchesWord - from in
-    let end : switchesWord ≡ from + n = omega arith in
-    let bytes : switchesAt - wordSize * from ≡ wordSize * n = omega arith in
-    let s : sum ≡ span b from n = omega (arith, span-words b n from, ap (words b) end) in
-    rw (bytes, s) (span-zeros b n from (omega arith))
+-- the words from i on are zero where word i is, and those after it
+front : (b : List ℕ) (i : ℕ) → length b ≡ blockSize → i < switchesWord → zeroFrom b i ≡ (eqb (wordAt b (wordSize * i)) 0 && zeroFrom b (i + 1))
+unfolding allZero
+front b i long h =
+    let at : ℕ = wordSize * i in
+    let n : ℕ = switchesAt - wordSize * (i + 1) in
+    let bytes : switchesAt - at ≡ suc (suc (suc (suc n))) = omega arith in
+    let next : at + wordSize ≡ wordSize * (i + 1) = omega arith in
+    rw (bytes, four b at (omega arith), next, word-none b at) (simp (and-assoc, and-true))
+
+-- the loop: what was seen so far and what is left say together what is asked
+pub zeros-more : (b : List ℕ) (from some i w : ℕ) → length b ≡ blockSize → i < switchesWord → w ≡ wordAt b (wordSize * i)
+    → (eqb some 0 && zeroFrom b i) ≡ zeroFrom b from → (eqb (bitOr some w) 0 && zeroFrom b (i + 1)) ≡ zeroFrom b from
+zeros-more b from some i w long h e so-far =
+    rw (or-none some w) (and-assoc (eqb some 0) (eqb w 0) (zeroFrom b (i + 1)) ∙ rw (e, ← front b i long h) so-far)
+
+pub none-left : (b : List ℕ) → zeroFrom b switchesWord ≡ true
+unfolding allZero
+none-left b = refl
+
+pub zeros-all : (b : List ℕ) (from some i : ℕ) → i ≤ switchesWord → switchesWord ≤ i → (eqb some 0 && zeroFrom b i) ≡ zeroFrom b from → eqb some 0 ≡ zeroFrom b from
+zeros-all b from some i h k so-far =
+    let q : i ≡ switchesWord = omega arith in
+    sym (and-true (eqb some 0)) ∙ ap (λ (t : Bool). eqb some 0 && t) (sym (ap (zeroFrom b) q ∙ none-left b)) ∙ so-far
+
+-- words that are zero add nothing to the plain sum
+none-added : (b : List ℕ) (i : ℕ) → wordAt b (wordSize * i) ≡ 0 → words b (i + 1) ≡ words b i
+unfolding words
+none-added b i e = rw (add-one, e) (add-zero (words b i))
+
+kept-by : (b : List ℕ) (d from : ℕ) → length b ≡ blockSize → from + d ≡ switchesWord → zeroFrom b from ≡ true → words b switchesWord ≡ words b from
+kept-by b zero from long e z = let q : switchesWord ≡ from = omega arith in ap (words b) q
+kept-by b (suc d) from long e z =
+    let p = both-of (eqb (wordAt b (wordSize * from)) 0) (zeroFrom b (from + 1)) (sym (front b from long (omega arith)) ∙ z) in
+    kept-by b d (from + 1) long (omega arith) (p .1) ∙ none-added b from (eqb-true (wordAt b (wordSize * from)) 0 (p .0))
+
+pub words-kept : (b : List ℕ) (from : ℕ) → length b ≡ blockSize → from ≤ switchesWord → zeroFrom b from ≡ true → words b switchesWord ≡ words b from
+words-kept b from long h = kept-by b (switchesWord - from) from long (omega arith)

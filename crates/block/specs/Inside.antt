@@ -1,8 +1,10 @@
 -- Inside: what only the contracts of this crate's own functions cite. No entry's promise rests on it, and a reader of the definitions may pass it over.
--- Here: the plain sum of a block's 32-bit words, by which the code finds both the unused bytes and the sum of RFC 1071.
-use Prim.Native.Nat.{ℕ, zero, suc, _+_, _*_, _/_}
+-- Here: a block's 32-bit words in memory's order, by whose plain sum the code finds the sum of RFC 1071.
+use Prim.Native.Nat.{ℕ, zero, suc, _+_, _*_, _-_, _/_}
+use mathlib.Core.Bool.{Bool}
 use mathlib.Core.List.{List}
-use Rattle.wire.specs.Numbers.{be32}
+use Rattle.wire.specs.Numbers.{byteAt}
+use Rattle.wire.specs.Parts.{part, allZero}
 use Rattle.block.specs.Block.{blockSize, switchesAt}
 
 -- bytes of a word
@@ -21,7 +23,15 @@ blockWords = blockSize / wordSize
 abbrev pub switchesWord : ℕ
 switchesWord = switchesAt / wordSize
 
+-- the word that begins at a place: its first byte counts least
+unfoldable pub wordAt : List ℕ → ℕ → ℕ
+wordAt b at = (byteAt b at + byteAt b (at + 1) * 256) + (byteAt b (at + 2) * 65536 + byteAt b (at + 3) * 16777216)
+
 -- the plain sum of the first n words
 unfoldable pub words : List ℕ → ℕ → ℕ
 words b zero = 0
-words b (suc n) = words b n + be32 b (wordSize * n)
+words b (suc n) = words b n + wordAt b (wordSize * n)
+
+-- the words from one on, up to the switches, are zero
+abbrev pub zeroFrom : List ℕ → ℕ → Bool
+zeroFrom b from = allZero (part (wordSize * from) (switchesAt - wordSize * from) b)

@@ -1,9 +1,12 @@
 // The frame of a block of 512 bytes: kind, entries in use, number, unused bytes, sum.
 ghost use mathlib.Core.Path.{_≡_};
+ghost use mathlib.Core.Bool.{_&&_};
 ghost use Prim.Native.Nat.{_+_, _*_, _/_, _%_, _≤_, _<_};
+ghost use lib.Dec.{ltb, eqb};
 ghost use lib.ListN.{length};
+ghost use Rattle.block.specs.Sum.{rightSum};
 ghost use Rattle.block.specs.Block.{blockSize, entriesRoom, placeInBlock, filledOk, frameOk};
-ghost use Rattle.block.specs.Inside.{wordSize, mostWord, blockWords, switchesWord, words};
+ghost use Rattle.block.specs.Inside.{wordSize, mostWord, blockWords, switchesWord, wordAt, words, zeroFrom};
 
 // Bytes of a block.
 pub const BLOCK_SIZE: usize = 512;
@@ -20,6 +23,9 @@ pub const ENTRIES_ROOM: usize = SWITCHES_AT - ENTRIES_AT;
 // Bytes of a word.
 const WORD_SIZE: usize = 4;
 
+// The words of a block.
+const BLOCK_WORDS: usize = BLOCK_SIZE / WORD_SIZE;
+
 // The word in which the switches stand.
 const SWITCHES_WORD: usize = SWITCHES_AT / WORD_SIZE;
 
@@ -27,24 +33,54 @@ const SWITCHES_WORD: usize = SWITCHES_AT / WORD_SIZE;
 const RIGHT_SUM: u64 = 65535;
 
 // A byte as a wider number.
-fn wide(x: u8) -> usize
+fn wide(x: u8) -> u32
     ensures { λ r. ⌜ (r ≡ x) × (r < 256) ⌝ }
 {
-    x as usize
+    x as u32
 }
 
-// The plain sum of the 32-bit words from `from` up to `to`.
-fn sum_words(b: &[u8], from: usize, to: usize) -> u64
-    requires { ⌜ (from ≤ to) × (to ≤ blockWords) × (length (now b) ≡ blockSize) ⌝ }
-    ensures { λ r. ⌜ (r + words (now (b .entry)) from ≡ words (now (b .entry)) to) × (r ≤ mostWord * blockWords) ⌝ }
+// The word that begins at `at`, its first byte the one that counts least: so the compiler takes it for one load, and a sum or an
+// OR of words for wide ones. Neither a test for zero nor one for a multiple of 0xFFFF minds the order of bytes.
+fn word(b: &[u8], at: usize) -> u32
+    requires { ⌜ at + wordSize ≤ length (now b) ⌝ }
+    ensures { λ r. ⌜ (r ≡ wordAt (now (b .entry)) at) × (r ≤ mostWord) ⌝ }
+{
+    (wide(b[at]) + wide(b[at + 1]) * 256) + (wide(b[at + 2]) * 65536 + wide(b[at + 3]) * 16777216)
+}
+
+// The plain sum of the first `to` words.
+fn sum_words(b: &[u8], to: usize) -> u64
+    requires { ⌜ (to ≤ blockWords) × (length (now b) ≡ blockSize) ⌝ }
+    ensures { λ r. ⌜ (r ≡ words (now (b .entry)) to) × (r ≤ mostWord * to) ⌝ }
 {
     let mut sum: u64 = 0;
-    let mut i = from;
+    let mut i: usize = 0;
     while i < to {
-        sum += wire::be32(b, WORD_SIZE * i) as u64;
+        sum += word(b, WORD_SIZE * i) as u64;
         i += 1;
     }
     sum
+}
+
+// Whether words of a plain sum give 0xFFFF with end-around carry.
+fn right_sum(sum: u64) -> bool
+    ensures { λ r. ⌜ r ≡ (ltb 0 sum && eqb (sum % rightSum) 0) ⌝ }
+{
+    (0 < sum) & (sum % RIGHT_SUM == 0)
+}
+
+// Whether the words from `from` up to the switches are zero.
+fn zero_from(b: &[u8], from: usize) -> bool
+    requires { ⌜ (from ≤ switchesWord) × (length (now b) ≡ blockSize) ⌝ }
+    ensures { λ r. ⌜ r ≡ zeroFrom (now (b .entry)) from ⌝ }
+{
+    let mut some: u32 = 0;
+    let mut i = from;
+    while i < SWITCHES_WORD {
+        some = some | word(b, WORD_SIZE * i);
+        i += 1;
+    }
+    some == 0
 }
 
 // The word at which the entries in use end.
@@ -62,24 +98,24 @@ fn filled_ok(each: usize, partly: bool, used: usize) -> bool
     (1 <= used) & (used <= each) & (partly | (used == each))
 }
 
-// Whether a block keeps its frame. The words are read once: the unused ones are zero where their plain sum is, and the sum
-// with end-around carry is 0xFFFF where the plain sum of all is a multiple of it, and not 0.
+// Whether a block keeps its frame. What one look decides comes first. Where the entries in use reach the switches no word is
+// unused; else those that are must be zero, and add nothing to the sum.
 pub fn frame_ok(b: &[u8], kind: u8, size: usize, number: u16, partly: bool) -> bool
     requires { ⌜ length (now b) ≡ blockSize ⌝ }
     requires { ⌜ (0 < size) × (size % wordSize ≡ 0) ⌝ }
     ensures { λ r. ⌜ r ≡ frameOk kind size number partly (now (b .entry)) ⌝ }
 {
-    let used = wide(b[1]);
-    let each = ENTRIES_ROOM / size;
-    if each < used {
+    let used = wide(b[1]) as usize;
+    let full = filled_ok(ENTRIES_ROOM / size, partly, used);
+    if (b[0] != kind) | (wire::be16(b, 2) != number) | !full {
         return false;
     }
     let end = end_of(size, used);
-    let rest = sum_words(b, end, SWITCHES_WORD);
-    let sum = sum_words(b, 0, end) + rest + wire::be32(b, SWITCHES_AT) as u64;
-    (b[0] == kind)
-        & filled_ok(each, partly, used)
-        & (wire::be16(b, 2) == number)
-        & (rest == 0)
-        & ((0 < sum) & (sum % RIGHT_SUM == 0))
+    if end == SWITCHES_WORD {
+        return right_sum(sum_words(b, BLOCK_WORDS));
+    }
+    if !zero_from(b, end) {
+        return false;
+    }
+    right_sum(sum_words(b, end) + word(b, SWITCHES_AT) as u64)
 }

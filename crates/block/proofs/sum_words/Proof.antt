@@ -1,6 +1,6 @@
--- `sum_words`: after the turns up to i the sum, with the words before `from`, is that of the first i words.
-use Prim.Native.Nat.{_+_, _*_, _-_, _≤_}
-use mathlib.Core.Path.{_≡_}
+-- `sum_words`: after the turns up to i the sum is that of the first i words.
+use Prim.Native.Nat.{_*_, _-_, _≤_}
+use mathlib.Core.Path.{_≡_, refl}
 use native.Mathlib.Omega.{arith}
 use Rattle.block.specs.Inside.{mostWord, words}
 use Rattle.block.proofs.Sums.{words-more, words-all}
@@ -8,10 +8,14 @@ use Rattle.block.proofs.sum_words.Statement.{statement}
 use Rattle.block.proofs.sum_words.Tie as tie
 
 abbrev Inv-loop : tie.InvT-loop
-Inv-loop b from to sum₀ i₀ sum i = (i ≤ to) × (sum ≤ mostWord * i) × (sum + words b from ≡ words b i)
+Inv-loop b to sum₀ i₀ sum i = (i ≤ to) × (sum ≤ mostWord * i) × (sum ≡ words b i)
 
 abbrev μ-loop : tie.MeasureT-loop
-μ-loop b from to sum₀ i₀ sum i = to - i
+μ-loop b to sum₀ i₀ sum i = to - i
+
+loop-holds : tie.Need-loop-holds Inv-loop μ-loop
+unfolding words
+loop-holds c = (omega arith, omega arith, refl)
 
 loop-again : tie.Need-loop-again Inv-loop μ-loop
 loop-again c = (omega arith, omega arith, search words-more)
@@ -25,7 +29,7 @@ sum-words-spec =
     (tie.spec
     Inv-loop
     μ-loop
-    (λ c. omega arith)
+    loop-holds
     (λ c. omega arith)
     (λ c κs. omega arith)
     (λ c. omega arith)
