@@ -6,9 +6,10 @@ use mathlib.Core.Logic.{⊎-elim}
 use mathlib.Core.Path.{_≡_, refl, sym, ap, _∙_}
 use native.Mathlib.Omega.{arith}
 use lib.Dec.{leb, ltb, eqb}
+use lib.ListN.{drop}
 use borrow.Author.Tests.{le-ltb, lt-leb, ne-eqb, ltb-true, ltb-false, leb-false, not-false}
 use Rattle.rows.specs.Rows.{Row, firstOf, NoneApplies, IsFirst}
-use Rattle.rows.proofs.Laws.{decided, neither-of, none-is, number-kept, some-first, zero-none, first-at-most, appliesAt, none-at, none-joined, none-split}
+use Rattle.rows.proofs.Laws.{decided, neither-of, none-is, number-kept, given-by, none-by, some-first, zero-none, first-at-most, appliesAt, none-at, none-joined, none-split}
 use Rattle.wire.specs.Addresses.{linkScoped}
 use Rattle.recent.specs.Layout.{wellFormed}
 use Rattle.recent.specs.Entries.{seenIn}
@@ -21,7 +22,7 @@ use Rattle.message.specs.Room.{isFull, hopsUsed}
 use Rattle.message.specs.Check.{headerRows, messageRows}
 use Rattle.message.specs.Inside.{blocksSeen}
 use Rattle.drops.specs.declared.Verdict.{Verdict}
-use Rattle.drops.specs.Inside.{dropVerdict, passVerdict, verdictOf}
+use Rattle.drops.specs.Inside.{lentRows, dropVerdict, passVerdict, judgedOf, verdictOf}
 use Rattle.message.proofs.Laws.{Accepted, none-applies, applies-none, full-has-standard}
 use Rattle.drops.specs.Arrival.{Arrival, isQuery, isRequest, lastHopFor}
 use Rattle.drops.specs.Drop.{dropRoom, dropState, dropSheet, dropIface, dropDest, dropNear, dropCount, dropSeen, dropLastHop, lastDrop, nearTtl, isHeld, lendingRows, deliveryRows, routeRows, table, dropOf}
@@ -99,6 +100,27 @@ module _ (a : Arrival) (sheet recent : List ℕ) (output note : ℕ) where
       let last : NoneApplies behind = (rw (t .reaches), (t .near, (t .few, (t .unseen, (t .last-hop, (has-previous (t .message), tt)))))) in
       none-joined before (messageRows (a .message) ++ behind) first
       (none-joined (messageRows (a .message)) behind (applies-none (a .message) (t .message)) last)
+
+-- rows 1 and 2 stand before the others: where one applies it is the first, and where none does the others decide
+module _ (a : Arrival) (sheet recent : List ℕ) (output note n : ℕ) (told : n ≡ firstOf (lentRows output note recent)) where
+  abbrev others : List Row
+  others = drop 2 (table a sheet recent most noteSize)
+
+  pub lent-first : (n ≡ 0 → ⊥) → IsFirst (table a sheet recent output note) n
+  unfolding table lendingRows
+  lent-first some =
+      let is : firstOf (table a sheet recent output note) ≡ n = given-by (λ k. k) 0 (lentRows output note recent) others n told some in
+      rw is at (some-first (table a sheet recent output note) (λ z. some (sym is ∙ z)))
+
+  pub lent-none : n ≡ 0 → verdictOf a sheet recent output note ≡ judgedOf a sheet recent
+  unfolding verdictOf judgedOf table lendingRows
+  lent-none none =
+      none-by dropVerdict (passVerdict (headerOf (a .message)) (blocksSeen (a .message)) sheet) (lentRows output note recent) others n told refl none
+
+  pub lent-formed : n ≡ 0 → wellFormed recent ≡ true
+  unfolding lendingRows
+  lent-formed none =
+      not-false (wellFormed recent) (none-at (lentRows output note recent) (zero-none (lentRows output note recent) refl (sym told ∙ none)) dropState)
 
 -- the verdict: its number is that of the first row that applies; where it is 0 none does, and it is what was found out
 module _ (a : Arrival) (sheet recent : List ℕ) (output note : ℕ) (v : Verdict) (told : v ≡ verdictOf a sheet recent output note) where

@@ -5,11 +5,8 @@ use mathlib.Core.List.{List, _++_}
 use mathlib.Core.Path.{_≡_, refl, sym, ap, _∙_}
 use native.Mathlib.Omega.{arith}
 use lib.Dec.{eqb}
-use borrow.Author.Tests.{eq-eqb, ne-eqb, not-false}
+use borrow.Author.Tests.{eq-eqb, ne-eqb}
 use Rattle.wire.specs.Addresses.{linkScoped}
-use Rattle.recent.specs.Layout.{wellFormed}
-use Rattle.recent.specs.Inside.{Formed}
-use Rattle.recent.proofs.Laws.{formed}
 use Rattle.sheet.specs.declared.layout.Layout.{Layout}
 use Rattle.sheet.specs.declared.tables.Holding.{Holding}
 use Rattle.sheet.specs.declared.tables.Holding.the-variants.{At, Nowhere}
@@ -29,12 +26,12 @@ use Rattle.message.proofs.Laws.{check-number, check-accepts, accepts-as}
 use Rattle.drops.specs.declared.Verdict.{Verdict}
 use Rattle.drops.specs.Arrival.{arrival, isQuery, routeFor, lastHopFor}
 use Rattle.rows.specs.Rows.{Row, byFirst, firstOf}
-use Rattle.rows.proofs.Laws.{given-alone, none-alone, given-by, none-by, zero-none, none-at}
+use Rattle.rows.proofs.Laws.{given-alone, none-alone, given-by, none-by}
 use Rattle.message.specs.Format.{query, standardSize}
 use lib.ListN.{length}
 use Rattle.message.specs.Room.{isFull}
-use Rattle.drops.specs.Drop.{dropState, dropLastHop, dropNoPrev, isHeld, lendingRows, deliveryRows, routeRows, table}
-use Rattle.drops.specs.Inside.{dropVerdict, passVerdict, routedOf, verdictOf}
+use Rattle.drops.specs.Drop.{dropLastHop, dropNoPrev, isHeld, lendingRows, deliveryRows, routeRows, table}
+use Rattle.drops.specs.Inside.{sheetRows, dropVerdict, passVerdict, routedOf, judgedOf}
 
 -- an interface holds the address, or none does
 pub held-at : (s : List ℕ) (address i : ℕ) (found : Holding) → found ≡ holderOf s address → found ≡ At i → true ≡ isHeld (holderOf s address)
@@ -69,6 +66,16 @@ module _ (proper : Bool) (h : Header) (blocks destination : ℕ) (full x : Bool)
     unfolding routeRows byFirst
     row-none e = rw (← told, not-18, e)
 
+-- row 18 asks of Queries alone
+asked-flag : (query scoped proper : Bool) → (query && scoped && not (query && proper)) ≡ (query && scoped && not proper)
+asked-flag true scoped proper = refl
+asked-flag false scoped proper = refl
+
+asked : (proper : Bool) (h : Header) (blocks destination : ℕ) (full : Bool)
+    → firstOf (routeRows (isQuery h && proper) h blocks full destination) ≡ firstOf (routeRows proper h blocks full destination)
+unfolding routeRows
+asked proper h blocks destination full = rw (asked-flag (isQuery h) (linkScoped destination) proper)
+
 -- rows 14 to 19
 module _ (full : Bool) (h : Header) (b : Blocks) (destination ttl : ℕ) (s r : List ℕ) (n : ℕ)
     (delivery : n ≡ firstOf (deliveryRows s r h (b .count) destination ttl)) where
@@ -83,18 +90,19 @@ module _ (full : Bool) (h : Header) (b : Blocks) (destination ttl : ℕ) (s r : 
   routed-dropped v some e = e ∙ sym (given-by dropVerdict (passVerdict h b s) came late n delivery some)
 
   module _ (none : n ≡ 0) (c : Chosen) (chosen : c ≡ whichRoute (routesOf s) (h .source) (h .group)) (p : Bool)
-      (hop : p ≡ properLastHop (interfaceOf s) (layoutOf s .interfaces) c (h .client)) (k : ℕ)
+      (hop : p ≡ (isQuery h && properLastHop (interfaceOf s) (layoutOf s .interfaces) c (h .client))) (k : ℕ)
       (row : k ≡ firstOf (routeRows p h (b .count) full destination)) where
     is-route : c ≡ routeFor s h
     unfolding routeFor
     is-route = chosen
 
-    is-hop : p ≡ lastHopFor s h
+    is-hop : p ≡ (isQuery h && lastHopFor s h)
     unfolding lastHopFor
-    is-hop = hop ∙ ap (λ (w : Chosen). properLastHop (interfaceOf s) (layoutOf s .interfaces) w (h .client)) is-route
+    is-hop = hop ∙ ap (λ (w : Chosen). isQuery h && properLastHop (interfaceOf s) (layoutOf s .interfaces) w (h .client)) is-route
 
     late-row : k ≡ firstOf late
-    late-row = row ∙ ap (λ (x : Bool). firstOf (routeRows x h (b .count) full destination)) is-hop
+    late-row =
+        row ∙ ap (λ (x : Bool). firstOf (routeRows x h (b .count) full destination)) is-hop ∙ asked (lastHopFor s h) h (b .count) destination full
 
     not-delivery : routedOf full h b destination ttl s r ≡ byFirst dropVerdict (passVerdict h b s) late
     unfolding routedOf deliveryRows
@@ -107,16 +115,16 @@ module _ (full : Bool) (h : Header) (b : Blocks) (destination ttl : ℕ) (s r : 
     unfolding passVerdict routeRows
     routed-taken z = rw (is-hop, is-route) (sym (not-delivery ∙ none-alone dropVerdict (passVerdict h b s) late k late-row refl z))
 
--- all rows
-module _ (m : List ℕ) (destination receiving ttl : ℕ) (s r : List ℕ) (output note : ℕ) where
+-- rows 3 to 19
+module _ (m : List ℕ) (destination receiving ttl : ℕ) (s r : List ℕ) where
   abbrev verdict : Verdict
-  verdict = verdictOf (arrival m destination receiving ttl) s r output note
+  verdict = judgedOf (arrival m destination receiving ttl) s r
 
   abbrev pass : Verdict
   pass = passVerdict (headerOf m) (blocksSeen m) s
 
-  abbrev lent : List Row
-  lent = lendingRows output note r (layoutOf s) receiving
+  abbrev first : List Row
+  first = sheetRows (layoutOf s) receiving
 
   -- from row 14 on
   abbrev last : List Row
@@ -124,22 +132,22 @@ module _ (m : List ℕ) (destination receiving ttl : ℕ) (s r : List ℕ) (outp
       deliveryRows s r (headerOf m) (standardCount m) destination ttl
       ++ routeRows (lastHopFor s (headerOf m)) (headerOf m) (standardCount m) (isFull m) destination
 
-  module _ (l : Layout) (layout : l ≡ layoutOf s) (n : ℕ) (lending : n ≡ firstOf (lendingRows output note r l receiving)) where
-    lending-row : n ≡ firstOf lent
-    lending-row = rw (← layout) lending
+  module _ (l : Layout) (layout : l ≡ layoutOf s) (n : ℕ) (tested : n ≡ firstOf (sheetRows l receiving)) where
+    first-row : n ≡ firstOf first
+    first-row = rw (← layout) tested
 
-    pub judged-lending : (v : Verdict) → (n ≡ 0 → ⊥) → v ≡ dropVerdict n → v ≡ verdict
-    unfolding verdictOf table
-    judged-lending v some e = e ∙ sym (given-by dropVerdict pass lent (messageRows m ++ last) n lending-row some)
+    pub judged-sheet : (v : Verdict) → (n ≡ 0 → ⊥) → v ≡ dropVerdict n → v ≡ verdict
+    unfolding judgedOf table lendingRows
+    judged-sheet v some e = e ∙ sym (given-by dropVerdict pass first (messageRows m ++ last) n first-row some)
 
     module _ (none : n ≡ 0) (k : Checked) (checked : k ≡ checkOf m) where
-      not-lending : verdict ≡ byFirst dropVerdict pass (messageRows m ++ last)
-      unfolding verdictOf table lendingRows
-      not-lending = none-by dropVerdict pass lent (messageRows m ++ last) n lending-row refl none
+      not-sheet : verdict ≡ byFirst dropVerdict pass (messageRows m ++ last)
+      unfolding judgedOf table lendingRows
+      not-sheet = none-by dropVerdict pass first (messageRows m ++ last) n first-row refl none
 
       pub judged-message : (v : Verdict) → (k .number ≡ 0 → ⊥) → v ≡ dropVerdict (k .number) → v ≡ verdict
       judged-message v some e =
-          e ∙ sym (not-lending ∙ given-by dropVerdict pass (messageRows m) last (k .number) (check-number m k checked) some)
+          e ∙ sym (not-sheet ∙ given-by dropVerdict pass (messageRows m) last (k .number) (check-number m k checked) some)
 
       pub judged-routed : (v : Verdict) → k .number ≡ 0 → v ≡ routedOf (isFull m) (k .header) (k .blocks) destination ttl s r → v ≡ verdict
       unfolding routedOf blocksSeen messageRows headerRows acceptedMessage
@@ -148,11 +156,7 @@ module _ (m : List ℕ) (destination receiving ttl : ℕ) (s r : List ℕ) (outp
           let header : k .header ≡ headerOf m = ap (λ (x : Checked). x .header) as-is in
           let blocks : k .blocks ≡ blocksSeen m = ap (λ (x : Checked). x .blocks) as-is in
           e
-          ∙ rw (header, blocks) (sym (not-lending ∙ none-by dropVerdict pass (messageRows m) last (k .number) (check-number m k checked) refl z))
+          ∙ rw (header, blocks) (sym (not-sheet ∙ none-by dropVerdict pass (messageRows m) last (k .number) (check-number m k checked) refl z))
 
       pub judged-fits : k .number ≡ 0 → length m + standardSize < 18446744073709551616
       judged-fits z = omega (arith, check-accepts m k checked z .high)
-
-    pub judged-formed : n ≡ 0 → Formed r
-    unfolding lendingRows
-    judged-formed z = formed r (not-false (wellFormed r) (none-at lent (zero-none lent refl (sym lending-row ∙ z)) dropState))

@@ -9,11 +9,12 @@ ghost use Rattle.wire.specs.Addresses.{linkScoped};
 ghost use Rattle.recent.specs.Inside.{Formed};
 ghost use Rattle.recent.specs.Entries.{seenIn};
 ghost use Rattle.sheet.specs.Sheet.{layoutOf};
-ghost use Rattle.sheet.specs.Tables.{holderOf};
+ghost use Rattle.sheet.specs.Tables.{interfaceOf, holderOf};
+ghost use Rattle.route.specs.LastHop.{properLastHop};
 ghost use Rattle.drops.specs.Arrival.{arrival, isQuery};
 ghost use Rattle.rows.specs.Rows.{firstOf};
-ghost use Rattle.drops.specs.Drop.{isHeld, lendingRows, deliveryRows, routeRows};
-ghost use Rattle.drops.specs.Inside.{dropVerdict, routedOf, verdictOf};
+ghost use Rattle.drops.specs.Drop.{isHeld, deliveryRows, routeRows};
+ghost use Rattle.drops.specs.Inside.{lentRows, sheetRows, dropVerdict, routedOf, judgedOf};
 
 // The TTL with which a Request comes from a neighbour.
 pub const NEAR_TTL: u32 = 255;
@@ -39,7 +40,7 @@ const DROP_LASTHOP: u32 = 18;
 
 const DROP_NOPREV: u32 = 19;
 
-// The drop number, or 0 and what the answer needs: the header, the blocks, the route, and whether this is the proper last hop.
+// The drop number, or 0 and what the answer needs: the header, the blocks, the route, and whether this is a Query's proper last hop.
 pub struct Verdict {
     pub number: u32,
     pub header: Header,
@@ -48,9 +49,9 @@ pub struct Verdict {
     pub proper: bool,
 }
 
-// Rows 1 to 4.
-fn lending_row(output: usize, note: usize, recent: &[u8], layout: Layout, receiving: u32) -> u32
-    ensures { λ r. ⌜ r ≡ firstOf (lendingRows output note (now (recent .entry)) layout receiving) ⌝ }
+// Rows 1 and 2: what is lent besides the sheet. They cost little, and are tried before the sheet is looked at.
+pub fn lent_row(output: usize, note: usize, recent: &[u8]) -> u32
+    ensures { λ r. ⌜ r ≡ firstOf (lentRows output note (now (recent .entry))) ⌝ }
 {
     if (output < message::MOST) | (note < message::NOTE_SIZE) {
         return DROP_ROOM;
@@ -58,6 +59,13 @@ fn lending_row(output: usize, note: usize, recent: &[u8], layout: Layout, receiv
     if !recent::check(recent) {
         return DROP_STATE;
     }
+    0
+}
+
+// Rows 3 and 4.
+fn sheet_row(layout: Layout, receiving: u32) -> u32
+    ensures { λ r. ⌜ r ≡ firstOf (sheetRows layout receiving) ⌝ }
+{
     if !layout.valid {
         return DROP_SHEET;
     }
@@ -96,6 +104,17 @@ fn is_seen(recent: &[u8], h: Header) -> bool
         return false;
     }
     recent::seen(recent, h.client, h.id)
+}
+
+// Whether this is the proper last hop for a Query, by the route chosen. Nothing is asked of a Request.
+fn is_proper(sheet: &[u8], layout: Layout, chosen: Chosen, h: Header) -> bool
+    requires { ⌜ layout ≡ layoutOf (now sheet) ⌝ }
+    ensures { λ r. ⌜ r ≡ (isQuery h && properLastHop (interfaceOf (now (sheet .entry))) (layoutOf (now (sheet .entry)) .interfaces) chosen (h .client)) ⌝ }
+{
+    if h.kind != message::QUERY {
+        return false;
+    }
+    route::last_hop(sheet, layout, chosen, h.client)
 }
 
 // Rows 14 to 17.
@@ -185,7 +204,7 @@ fn routed(
         return dropped(number);
     }
     let chosen = route::choose(sheet, layout, h.source, h.group);
-    let proper = route::last_hop(sheet, layout, chosen, h.client);
+    let proper = is_proper(sheet, layout, chosen, h);
     let number = route_row(proper, h, b.count, full, destination);
     if number != 0 {
         return dropped(number);
@@ -199,7 +218,8 @@ fn routed(
     }
 }
 
-// What a router makes of what arrives: the first row that applies, or what the answer needs.
+// What a router makes of what arrives, where what is lent besides the sheet is right: the first row from 3 on that applies, or what
+// the answer needs.
 pub fn judge(
     message: &[u8],
     destination: u32,
@@ -207,13 +227,12 @@ pub fn judge(
     ttl: u32,
     sheet: &[u8],
     recent: &[u8],
-    output: usize,
-    note: usize,
 ) -> Verdict
-    ensures { λ v. ⌜ v ≡ verdictOf (arrival (now (message .entry)) destination receiving ttl) (now (sheet .entry)) (now (recent .entry)) output note ⌝ }
+    requires { ⌜ Formed (now recent) ⌝ }
+    ensures { λ v. ⌜ v ≡ judgedOf (arrival (now (message .entry)) destination receiving ttl) (now (sheet .entry)) (now (recent .entry)) ⌝ }
 {
     let layout = sheet::check(sheet);
-    let number = lending_row(output, note, recent, layout, receiving);
+    let number = sheet_row(layout, receiving);
     if number != 0 {
         return dropped(number);
     }

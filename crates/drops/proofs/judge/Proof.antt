@@ -1,20 +1,14 @@
--- `judge`: all rows, one group behind the other.
-use Rattle.drops.proofs.Rows.{judged-lending, judged-message, judged-routed, judged-formed, judged-fits}
+-- `judge`: all rows from 3 on, one group behind the other.
+use Rattle.drops.proofs.Rows.{judged-sheet, judged-message, judged-routed, judged-fits}
 use borrow.Author.Needs.{needs}
 use Rattle.drops.proofs.judge.Statement.{statement}
 use Rattle.drops.proofs.judge.Tie as tie
 
 returns : tie.Need-returns
-returns c = search judged-lending
+returns c = search judged-sheet
 
 returns-2 : tie.Need-returns-2
 returns-2 c = search judged-message
-
-add-full : tie.Need-add-full
-add-full c = record { fits = search judged-fits }
-
-routed-requires : tie.Need-routed-requires
-routed-requires c κs = (search, search judged-formed)
 
 returns-3 : tie.Need-returns-3
 returns-3 c = search judged-routed
@@ -30,6 +24,6 @@ judge-spec =
     (λ c κs. search needs)
     (λ c κs. search needs)
     returns-2
-    add-full
-    routed-requires
+    (λ c. search needs)
+    (λ c κs. search needs)
     returns-3)
