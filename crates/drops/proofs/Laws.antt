@@ -117,10 +117,11 @@ module _ (a : Arrival) (sheet recent : List ℕ) (output note n : ℕ) (told : n
   lent-none none =
       none-by dropVerdict (passVerdict (headerOf (a .message)) (blocksSeen (a .message)) sheet) (lentRows output note recent) others n told refl none
 
-  pub lent-formed : n ≡ 0 → wellFormed recent ≡ true
-  unfolding lendingRows
-  lent-formed none =
-      not-false (wellFormed recent) (none-at (lentRows output note recent) (zero-none (lentRows output note recent) refl (sym told ∙ none)) dropState)
+-- where neither applies the recent list is well-formed
+pub lent-formed : (output note : ℕ) (recent : List ℕ) → firstOf (lentRows output note recent) ≡ 0 → wellFormed recent ≡ true
+unfolding lendingRows
+lent-formed output note recent none =
+    not-false (wellFormed recent) (none-at (lentRows output note recent) (zero-none (lentRows output note recent) refl none) dropState)
 
 -- the verdict: its number is that of the first row that applies; where it is 0 none does, and it is what was found out
 module _ (a : Arrival) (sheet recent : List ℕ) (output note : ℕ) (v : Verdict) (told : v ≡ verdictOf a sheet recent output note) where

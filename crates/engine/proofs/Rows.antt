@@ -28,7 +28,7 @@ use Rattle.message.specs.Header.{headerOf}
 use Rattle.message.specs.Blocks.{lastStandard}
 use Rattle.engine.specs.View.{incomingFor, viewWith}
 use Rattle.engine.specs.Answer.{sentOn, sentHome, mtracePort, noteHome, noteOn, goesHome, goesOn, fullMessage, longerMessage, longerAnswer}
-use Rattle.engine.specs.Inside.{RouteThere, Written}
+use Rattle.engine.specs.Inside.{kindSent, RouteThere, Written}
 use Rattle.message.specs.Format.{query, request, reply, standardSize, codeOffset}
 use Rattle.response.specs.Code.{codeNoSpace}
 use Rattle.message.specs.Room.{hopsUsed}
@@ -97,18 +97,20 @@ module _ (m : List ℕ) (v : View) (h : Header) (used : ℕ) (header : h ≡ hea
   unfolding longerAnswer
   answer-home e = rw (← count, ← header, ← told, e)
 
-  pub home-sent : x ≡ true → o1 ≡ splice o 0 (longerMessage reply m b) → k ≡ noteHome h (length m + standardSize) (v .here .address)
+  pub home-sent : (kind : ℕ) → x ≡ true → kind ≡ kindSent x → o1 ≡ splice o 0 (longerMessage kind m b)
+      → k ≡ noteHome h (length m + standardSize) (v .here .address)
       → Written (longerAnswer m v) o n sentHome o1 n1
-  home-sent e f g =
+  home-sent kind e d f g =
       rw (answer-home e)
-      (record { says = refl; sends = rw (f, block); notes = rw (noted, g, header, longer-length reply m (blockOf v)) })
+      (record { says = refl; sends = rw (f, d, e, block); notes = rw (noted, g, header, longer-length reply m (blockOf v)) })
 
   answer-on : x ≡ false → longerAnswer m v ≡ goesOn v (longerMessage request m (blockOf v))
   unfolding longerAnswer
   answer-on e = rw (← count, ← header, ← told, e)
 
-  pub on-sent : x ≡ false → o1 ≡ splice o 0 (longerMessage request m b) → k ≡ noteOn (v .chosen) (v .incoming) (length m + standardSize)
+  pub on-sent : (kind : ℕ) → x ≡ false → kind ≡ kindSent x → o1 ≡ splice o 0 (longerMessage kind m b)
+      → k ≡ noteOn (v .chosen) (v .incoming) (length m + standardSize)
       → Written (longerAnswer m v) o n sentOn o1 n1
-  on-sent e f g =
+  on-sent kind e d f g =
       rw (answer-on e)
-      (record { says = refl; sends = rw (f, block); notes = rw (noted, g, longer-length request m (blockOf v)) })
+      (record { says = refl; sends = rw (f, d, e, block); notes = rw (noted, g, longer-length request m (blockOf v)) })

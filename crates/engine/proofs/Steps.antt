@@ -1,5 +1,6 @@
 -- From the verdict to the answer: what an accepted message brings, and the outcome of each way through the step.
 use Prim.Native.Nat.{ℕ, _+_}
+use mathlib.Core.Bool.{Bool, true, false, not, _&&_}
 use mathlib.Core.List.{List}
 use mathlib.Core.Logic.{⊎-elim}
 use mathlib.Core.Path.{_≡_, refl, sym, ap, _∙_}
@@ -7,13 +8,15 @@ use native.Mathlib.Omega.{arith}
 use lib.ListN.{length}
 use borrow.Author.Tests.{lt-ltb, le-ltb}
 use Rattle.entry.specs.declared.interface.Interface.{Interface}
+use Rattle.recent.specs.Inside.{Formed}
 use Rattle.recent.proofs.Laws.{formed}
 use Rattle.sheet.specs.Sheet.{layoutOf}
-use Rattle.sheet.specs.Tables.{interfaceOf}
+use Rattle.sheet.specs.Tables.{interfaceOf, prohibitedOf}
 use Rattle.sheet.proofs.Laws.{interface-few}
 use Rattle.route.specs.declared.Chosen.{Chosen}
 use Rattle.route.specs.declared.Chosen.the-variants.{Found, Nothing}
 use Rattle.route.proofs.Laws.{chosen-kept}
+use Rattle.response.specs.declared.Incoming.{Incoming}
 use Rattle.response.specs.declared.View.{View}
 use Rattle.message.specs.declared.Header.{Header}
 use Rattle.message.specs.Format.{most, standardSize}
@@ -22,16 +25,19 @@ use Rattle.message.specs.Blocks.{standardCount, lastStandard}
 use Rattle.message.specs.Inside.{blocksSeen}
 use Rattle.message.proofs.Laws.{full-has-standard, last-high, standards-fit}
 use Rattle.drops.specs.declared.Verdict.{Verdict}
-use Rattle.drops.specs.Arrival.{Arrival, arrival, routeFor}
-use Rattle.drops.specs.Inside.{passVerdict, verdictOf}
-use Rattle.engine.specs.View.{viewWith}
+use Rattle.rows.specs.Rows.{firstOf}
+use Rattle.drops.specs.Arrival.{Arrival, arrival, isQuery, routeFor, lastHopFor}
+use Rattle.drops.specs.Inside.{lentRows, passVerdict, judgedOf, verdictOf}
+use Rattle.engine.specs.View.{incomingFor, viewWith}
 use Rattle.engine.specs.Answer.{goesHome, fullMessage, longerAnswer, sentBy}
 use Rattle.engine.specs.Step.{outcome, recentAfter, StepMeets}
 use Rattle.engine.specs.Inside.{RouteThere, Written, WithRoom, WithoutRoom, Ready, answered}
 use Rattle.message.specs.Room.{Full, HasRoom}
+use Rattle.response.specs.Code.{codes}
+use Rattle.response.specs.Fill.{blockOf, endsTrace}
 use Rattle.response.specs.Inside.{RouteFits}
 use Rattle.engine.proofs.Sent.{drop-changes-nothing, taken-is-sent}
-use Rattle.drops.proofs.Laws.{taken, verdict-first, verdict-none, verdict-passes}
+use Rattle.drops.proofs.Laws.{taken, lent-first, lent-none, lent-formed, verdict-first, verdict-none, verdict-passes}
 
 -- the outcome of what is written, as a message without room and as one with room
 module _ (m : List ℕ) (receiving time : ℕ) (v : Verdict) (s r o n r1 o1 n1 : List ℕ) (answer : ℕ) (entered : r1 ≡ recentAfter (v .header) r) where
@@ -128,18 +134,53 @@ module _ (m : List ℕ) (destination receiving ttl : ℕ) (s r : List ℕ) (o n 
         note-room = arrived .note-room;
       }
 
--- the two ways through the step
-module _ (m : List ℕ) (destination receiving ttl time : ℕ) (s r o n : List ℕ) (v : Verdict)
-    (told : v ≡ verdictOf (arrival m destination receiving ttl) s r (length o) (length n)) where
-  pub step-dropped : (v .number ≡ 0 → ⊥) → StepMeets (arrival m destination receiving ttl) time s r o n (outcome (v .number) r o n)
-  step-dropped some =
-      let a = arrival m destination receiving ttl in
-      sym (drop-changes-nothing a time s r o n (v .number) (verdict-first a s r (length o) (length n) v told some))
+-- whether this is the proper last hop is asked of Queries alone
+asked-view : (m : List ℕ) (query proper : Bool) (chosen : Chosen) (incoming : Incoming) (prohibited : Bool) (number : ℕ) (here : Interface) (group time : ℕ)
+    → longerAnswer m
+    (record { query = query; proper = query && proper; chosen = chosen; incoming = incoming; prohibited = prohibited; number = number; here = here; group = group; time = time })
+    ≡ longerAnswer m
+    (record { query = query; proper = proper; chosen = chosen; incoming = incoming; prohibited = prohibited; number = number; here = here; group = group; time = time })
+unfolding longerAnswer blockOf codes endsTrace
+asked-view m true proper chosen incoming prohibited number here group time = refl
+asked-view m false proper Nothing incoming prohibited number here group time = refl
+asked-view m false proper (Found r) incoming prohibited number here group time = refl
 
-  pub step-answered : (r1 o1 n1 : List ℕ) (answer : ℕ) → v .number ≡ 0 → outcome answer r1 o1 n1 ≡ answered m receiving time v s r o n
-      → StepMeets (arrival m destination receiving ttl) time s r o n (outcome answer r1 o1 n1)
-  unfolding sentBy answered passVerdict
-  step-answered r1 o1 n1 answer none e =
-      let a = arrival m destination receiving ttl in
-      let sent = taken-is-sent a time s r o n (verdict-none a s r (length o) (length n) v told none) in
-      e ∙ rw (verdict-passes a s r (length o) (length n) v told none) (sym sent)
+asked : (m s : List ℕ) (h : Header) (chosen : Chosen) (proper : Bool) (receiving time : ℕ)
+    → longerAnswer m (viewWith s h chosen (isQuery h && proper) receiving time) ≡ longerAnswer m (viewWith s h chosen proper receiving time)
+unfolding viewWith
+asked m s h chosen proper receiving time =
+    asked-view m (isQuery h) proper chosen (incomingFor s chosen) (prohibitedOf s) receiving (interfaceOf s receiving) (h .group) time
+
+-- rows 1 and 2 decide, or the others do
+module _ (m : List ℕ) (destination receiving ttl time : ℕ) (s r o n : List ℕ) (number : ℕ) (lent : number ≡ firstOf (lentRows (length o) (length n) r)) where
+  pub step-refused : (number ≡ 0 → ⊥) → StepMeets (arrival m destination receiving ttl) time s r o n (outcome number r o n)
+  step-refused some =
+      let a = arrival m destination receiving ttl in sym (drop-changes-nothing a time s r o n number (lent-first a s r (length o) (length n) number lent some))
+
+-- the recent list where they do not apply
+pub lent-list : (r o n : List ℕ) → firstOf (lentRows (length o) (length n) r) ≡ 0 → Formed r
+lent-list r o n lent = formed r (lent-formed (length o) (length n) r lent)
+
+-- the two ways through the step then
+module _ (m : List ℕ) (destination receiving ttl time : ℕ) (s r o n : List ℕ) (lent : firstOf (lentRows (length o) (length n) r) ≡ 0) where
+  abbrev came : Arrival
+  came = arrival m destination receiving ttl
+
+  module _ (v : Verdict) (judged : v ≡ judgedOf came s r) where
+    pub told : v ≡ verdictOf came s r (length o) (length n)
+    told = judged ∙ sym (lent-none came s r (length o) (length n) 0 (sym lent) refl)
+
+    pub step-dropped : (v .number ≡ 0 → ⊥) → StepMeets came time s r o n (outcome (v .number) r o n)
+    step-dropped some = sym (drop-changes-nothing came time s r o n (v .number) (verdict-first came s r (length o) (length n) v told some))
+
+    pub lent-ready : v .number ≡ 0 → Ready m receiving v s r (length o) (length n)
+    lent-ready none = step-ready m destination receiving ttl s r (length o) (length n) v told none
+
+    pub step-answered : (r1 o1 n1 : List ℕ) (answer : ℕ) → v .number ≡ 0 → outcome answer r1 o1 n1 ≡ answered m receiving time v s r o n
+        → StepMeets came time s r o n (outcome answer r1 o1 n1)
+    unfolding sentBy answered passVerdict
+    step-answered r1 o1 n1 answer none e =
+        let sent = taken-is-sent came time s r o n (verdict-none came s r (length o) (length n) v told none) in
+        let h = headerOf m in
+        e
+        ∙ rw (verdict-passes came s r (length o) (length n) v told none, asked m s h (routeFor s h) (lastHopFor s h) receiving time) (sym sent)

@@ -1,6 +1,6 @@
 -- Inside: what only the contracts of this crate's own functions cite. No entry's promise rests on it, and a reader of the definitions may pass it over.
 use Prim.Native.Nat.{ℕ, _+_, _≤_, _<_}
-use mathlib.Core.Bool.{cond}
+use mathlib.Core.Bool.{Bool, cond}
 use mathlib.Core.List.{List}
 use mathlib.Core.Path.{_≡_}
 use lib.ListN.{length}
@@ -11,7 +11,7 @@ use Rattle.sheet.specs.Tables.{interfaceOf}
 use Rattle.response.specs.declared.View.{View}
 use Rattle.response.specs.Inside.{RouteFits}
 use Rattle.message.specs.declared.Header.{Header}
-use Rattle.message.specs.Format.{headerSize, most, standardSize, noteSize}
+use Rattle.message.specs.Format.{headerSize, most, request, reply, standardSize, noteSize}
 use Rattle.message.specs.Header.{headerOf}
 use Rattle.message.specs.Blocks.{lastStandard}
 use Rattle.message.specs.Inside.{blocksSeen}
@@ -71,6 +71,10 @@ pub record Ready (m : List ℕ) (receiving : ℕ) (v : Verdict) (sheet recent : 
   pub last : Full m → lastStandard m + standardSize ≤ length m
   pub output-room : most ≤ output
   pub note-room : noteSize ≤ note
+
+-- the type of what is sent, where the trace ends or not
+abbrev pub kindSent : Bool → ℕ
+kindSent ends = cond ends reply request
 
 -- the outcome of an accepted message, by the verdict on it
 unfoldable pub answered : List ℕ → ℕ → ℕ → Verdict → List ℕ → List ℕ → List ℕ → List ℕ → Outcome

@@ -16,10 +16,12 @@ ghost use Rattle.sheet.specs.Sheet.{layoutOf};
 ghost use Rattle.response.specs.Code.{codeNoSpace};
 ghost use Rattle.message.specs.Format.{most, reply, standardSize, codeOffset, noteSize};
 ghost use Rattle.response.specs.Bytes.{noteBytes};
+ghost use Rattle.rows.specs.Rows.{firstOf};
 ghost use Rattle.drops.specs.Arrival.{arrival};
+ghost use Rattle.drops.specs.Inside.{lentRows};
 ghost use Rattle.engine.specs.View.{incomingFor, viewWith};
 ghost use Rattle.engine.specs.Answer.{noteHome, noteOn, goesHome, fullMessage, longerMessage, longerAnswer};
-ghost use Rattle.engine.specs.Inside.{RouteThere, Written, WithRoom, WithoutRoom, Ready, answered};
+ghost use Rattle.engine.specs.Inside.{RouteThere, Written, WithRoom, WithoutRoom, Ready, kindSent, answered};
 ghost use Rattle.engine.specs.Step.{outcome, recentAfter, StepMeets};
 
 // The answers: a Request sent on, and a Reply.
@@ -151,6 +153,16 @@ fn view_with(
     }
 }
 
+// The type of what is sent: a Reply where the trace ends, else a Request.
+fn kind_sent(ends: bool) -> u8
+    ensures { λ r. ⌜ r ≡ kindSent ends ⌝ }
+{
+    if ends {
+        return message::REPLY;
+    }
+    message::REQUEST
+}
+
 // There is room: the block is appended, and the message goes home or on.
 fn send_longer(
     message: &[u8],
@@ -165,15 +177,15 @@ fn send_longer(
 {
     let block = response::block_of(v);
     let size = message.len() + message::STANDARD_SIZE;
-    if response::ends_trace(v, used as u32 + 1, h.hops as u32) {
+    let ends = response::ends_trace(v, used as u32 + 1, h.hops as u32);
+    write_longer(message, kind_sent(ends), block, output);
+    if ends {
         let here = v.here;
-        write_longer(message, message::REPLY, block, output);
         write_note(note_home(h, size, here.address), note);
         return SENT_HOME;
     }
     let chosen = v.chosen;
     let incoming = v.incoming;
-    write_longer(message, message::REQUEST, block, output);
     write_note(note_on(chosen, incoming, size), note);
     SENT_ON
 }
@@ -222,6 +234,29 @@ fn answer(
     send_longer(message, h, blocks.count, view, output, note)
 }
 
+// One router's step, where rows 1 and 2 do not apply: the first row from 3 on that applies, or the answer.
+pub fn step_lent(
+    message: &[u8],
+    destination: u32,
+    receiving: u32,
+    ttl: u32,
+    time: u32,
+    sheet: &[u8],
+    recent: &mut [u8],
+    output: &mut [u8],
+    note: &mut [u8],
+) -> u32
+    requires { ⌜ firstOf (lentRows (length (now output)) (length (now note)) (now recent)) ≡ 0 ⌝ }
+    ensures { λ r. ⌜ StepMeets (arrival (now (message .entry)) destination receiving ttl) time (now (sheet .entry)) (now (recent .entry)) (now (output .entry)) (now (note .entry))
+        (outcome r (now (recent .exit)) (now (output .exit)) (now (note .exit))) ⌝ }
+{
+    let v = drops::judge(message, destination, receiving, ttl, sheet, recent);
+    if v.number != 0 {
+        return v.number;
+    }
+    answer(message, receiving, time, v, sheet, recent, output, note)
+}
+
 // One router's step. The answer is the drop number, and nothing lent is changed; or 100 for a Request sent on, or 101 for a
 // Reply, with the message in `output` and its record in `note`.
 pub fn step(
@@ -238,18 +273,19 @@ pub fn step(
     ensures { λ r. ⌜ StepMeets (arrival (now (message .entry)) destination receiving ttl) time (now (sheet .entry)) (now (recent .entry)) (now (output .entry)) (now (note .entry))
         (outcome r (now (recent .exit)) (now (output .exit)) (now (note .exit))) ⌝ }
 {
-    let v = drops::judge(
+    let number = drops::lent_row(output.len(), note.len(), recent);
+    if number != 0 {
+        return number;
+    }
+    step_lent(
         message,
         destination,
         receiving,
         ttl,
+        time,
         sheet,
         recent,
-        output.len(),
-        note.len(),
-    );
-    if v.number != 0 {
-        return v.number;
-    }
-    answer(message, receiving, time, v, sheet, recent, output, note)
+        output,
+        note,
+    )
 }
