@@ -4,7 +4,8 @@
 pub use Rattle.message.proofs.Accept.{Accepted, none-applies, applies-none, check-number, check-accepts, accepts-as, accepted-kinds, accepted-query, full-has-standard}
 -- where its type 4 blocks stand, also found one by one, from each block to the next
 pub use Rattle.message.proofs.Standards.{standards-fit, last-high, all-standards, standards-more, standards-same, standards-over}
-pub use Rattle.message.proofs.Turns.{none-short, size-inside, size-standard, moves-on}
+pub use Rattle.message.proofs.Turns.{size-inside, size-standard, moves-on}
+pub use Rattle.message.proofs.Heads.{none-short}
 -- what a router sends: a type 4 block appended and a type written
 pub use Rattle.message.proofs.Sent.{sent-header, sent-count, sent-accepted}
 -- the type 4 blocks as bytes, of what is sent

@@ -3,6 +3,7 @@ pub mod Laws
 pub mod Determined
 -- Where they are proved.
 mod Cut
+mod Heads
 mod Turns
 mod Rows
 mod Fields

@@ -1,25 +1,25 @@
 -- What each turn of the walk over the blocks shows: the answer for the whole message is what was found so far, joined with
 -- what the blocks from here on give.
 use Prim.Native.Nat.{ℕ, suc, _+_, _-_, _≤_, _<_}
-use mathlib.Core.Path.{_≡_, sym, ap, _∙_}
-use mathlib.Core.Bool.{Bool, true, false, not, cond}
+use mathlib.Core.Path.{_≡_, refl, sym, ap, _∙_}
+use mathlib.Core.Bool.{Bool, true, false, cond}
 use mathlib.Core.List.{List, _∷_}
 use mathlib.Core.Logic.{⊎-elim}
 use native.Mathlib.Omega.{arith}
 use native.Mathlib.Nat.{add-zero, zero-add, add-assoc}
-use borrow.Author.Tests.{not-true, not-false, eqb-true}
+use borrow.Author.Tests.{eqb-true}
 use lib.Dec.{eqb}
 use lib.ListN.{length, drop, length-drop}
-use lib.Seq.{getD-drop, drop-drop}
+use lib.Seq.{drop-drop}
 use Rattle.wire.specs.Numbers.{byteAt, be16}
-use Rattle.rows.proofs.Laws.{cond-cases, decided}
-use Rattle.wire.proofs.Laws.{be-drop}
+use Rattle.rows.proofs.Laws.{decided}
 use Rattle.message.specs.declared.Blocks.{Blocks}
 use Rattle.message.specs.declared.BlockHead.{BlockHead}
-use Rattle.message.specs.Format.{headerSize, standard, standardSize, augmentedLeast}
-use Rattle.message.specs.Blocks.{Placed, begins, fitsIn, blocksFrom, blocksOf, totalSize, standardPlaces, lastOr, standards, blocksEnd}
-use Rattle.message.specs.Inside.{noBlock, blockAt, blocksSeen}
-use Rattle.message.proofs.Cut.{begun, too-short, no-blocks, block-first}
+use Rattle.message.specs.Format.{headerSize, standard, augmented, standardSize, augmentedLeast}
+use Rattle.message.specs.Blocks.{Placed, begins, blocksFrom, blocksOf, totalSize, standardPlaces, lastOr, standards, blocksEnd}
+use Rattle.message.specs.Inside.{noBlock, isStandard, augmentedSize, blockAt, blocksSeen}
+use Rattle.message.proofs.Cut.{begun, no-blocks, block-first}
+use Rattle.message.proofs.Heads.{head, standard-there, none-there, augmented-there}
 
 -- what was found up to a place, joined with the blocks from there on
 unfoldable pub joined : ℕ → ℕ → ℕ → List Placed → Blocks
@@ -50,28 +50,7 @@ joined-first block count last others =
     (λ e. rw (standard-same block others e, e, far))
     (decided (eqb (block .kind) standard))
 
--- the block at a place: none where too little is left or what stands there is none, else the one that stands there
-module _ (s : List ℕ) (at : ℕ) where
-  no-block : begins (drop at s) ≡ false → noBlock ≡ blockAt s at
-  unfolding blockAt
-  no-block e = rw e
-
-  pub none-short : length s - at < 3 → noBlock ≡ blockAt s at
-  none-short h = no-block (too-short (drop at s) (rw (length-drop at s) (omega arith)))
-
-  module _ (size : ℕ) (fits : Bool) (z : size ≡ be16 s (at + 1)) (f : fits ≡ fitsIn (byteAt s at) size (length s - at)) where
-    begins-by : begins (drop at s) ≡ fits
-    unfolding begins
-    begins-by = rw (be-drop 1 s at 1, getD-drop at s 0 0, add-zero, length-drop at s, ← z) (sym f)
-
-    pub none-broken : not fits ≡ true → noBlock ≡ blockAt s at
-    none-broken n = no-block (begins-by ∙ not-true fits n)
-
-    pub one-there : not fits ≡ false → record { kind = byteAt s at; size = size } ≡ blockAt s at
-    unfolding blockAt
-    one-there n = rw (begins-by ∙ not-false fits n, be-drop 1 s at 1, getD-drop at s 0 0, add-zero, ← z)
-
--- what is known of it by its length, which is 0 where there is none
+-- what is known of the block at a place by its length, which is 0 where there is none
 module _ (s : List ℕ) (at : ℕ) (block : BlockHead) (b : block ≡ blockAt s at) where
   abbrev rest : List ℕ
   rest = drop at s
@@ -99,7 +78,7 @@ module _ (s : List ℕ) (at : ℕ) (block : BlockHead) (b : block ≡ blockAt s 
     size-there = ap (λ (h : BlockHead). h .size) (there starts)
 
     -- it is not empty, it lies within, and type 4 has its size
-    pub size-least : augmentedLeast ≤ block .size
+    size-least : augmentedLeast ≤ block .size
     size-least = rw size-there (begun rest starts .least)
 
     pub size-inside : at ≤ length s → at + block .size ≤ length s
@@ -119,19 +98,46 @@ module _ (s : List ℕ) (at : ℕ) (block : BlockHead) (b : block ≡ blockAt s 
 
   -- the walk over them
   module _ (count last : ℕ) (so-far : blocksSeen s ≡ joined at count last (blocksFrom at rest)) where
-    pub stopped : block .size ≡ 0 → record { end = at; count = count; last = last } ≡ blocksSeen s
+    over : block .size ≡ 0 → record { end = at; count = count; last = last } ≡ blocksSeen s
     unfolding joined totalSize standardPlaces lastOr
-    stopped z = rw (so-far, no-blocks at rest (ends z), add-zero, add-zero)
+    over z = rw (so-far, no-blocks at rest (ends z), add-zero, add-zero)
 
-    pub one-on : (count′ last′ : ℕ) → (block .size ≡ 0 → ⊥) → count′ ≡ cond (eqb (block .kind) standard) (count + 1) count → last′ ≡ cond (eqb (block .kind) standard) at last
-        → blocksSeen s ≡ joined (at + block .size) count′ last′ (blocksFrom (at + block .size) (drop (at + block .size) s))
-    one-on count′ last′ some c l =
-        rw (so-far, blocks-on some, joined-first (record { at = at; kind = block .kind; size = block .size }) count last _, c, l)
+    on : (block .size ≡ 0 → ⊥)
+        → blocksSeen s
+        ≡ joined (at + block .size) (cond (isStandard block) (count + 1) count) (cond (isStandard block) at last) (blocksFrom (at + block .size) (drop (at + block .size) s))
+    on some = rw (so-far, blocks-on some, joined-first (record { at = at; kind = block .kind; size = block .size }) count last _)
 
-  -- no more blocks are counted than bytes passed
-  pub count-inside : (count count′ : ℕ) → (block .size ≡ 0 → ⊥) → count ≤ at → count′ ≡ cond (eqb (block .kind) standard) (count + 1) count → count′ ≤ at + block .size
-  count-inside count count′ some h e =
-      rw e (cond-cases (λ m. m ≤ at + block .size) (eqb (block .kind) standard) (count + 1) count (λ _. omega (arith, size-least some)) (λ _. omega arith))
+-- the walk by the answers of `standard_at` and `augmented_at`
+module _ (s : List ℕ) (at : ℕ) (one : Bool) (o : one ≡ isStandard (blockAt s at)) where
+  module _ (e : one ≡ true) where
+    some : standardSize ≡ 0 → ⊥
+    some z = omega arith
+
+    pub standard-inside : at ≤ length s → at + standardSize ≤ length s
+    standard-inside = size-inside s at (head standard standardSize) (standard-there s at one o e) some
+
+    pub standard-moves : at ≤ length s → length s - (at + standardSize) < length s - at
+    standard-moves = moves-on s at (head standard standardSize) (standard-there s at one o e) some
+
+    pub standard-on : (count last : ℕ) → blocksSeen s ≡ joined at count last (blocksFrom at (drop at s))
+        → blocksSeen s ≡ joined (at + standardSize) (count + 1) at (blocksFrom (at + standardSize) (drop (at + standardSize) s))
+    standard-on count last so-far = on s at (head standard standardSize) (standard-there s at one o e) count last so-far some
+
+  module _ (e : one ≡ false) (size : ℕ) (z : size ≡ augmentedSize (blockAt s at)) where
+    pub stopped : (count last : ℕ) → blocksSeen s ≡ joined at count last (blocksFrom at (drop at s)) → size ≡ 0
+        → record { end = at; count = count; last = last } ≡ blocksSeen s
+    stopped count last so-far none = over s at noBlock (none-there s at one o e size z none) count last so-far refl
+
+    module _ (some : size ≡ 0 → ⊥) where
+      pub augmented-inside : at ≤ length s → at + size ≤ length s
+      augmented-inside = size-inside s at (head augmented size) (augmented-there s at one o e size z some) some
+
+      pub augmented-moves : at ≤ length s → length s - (at + size) < length s - at
+      augmented-moves = moves-on s at (head augmented size) (augmented-there s at one o e size z some) some
+
+      pub augmented-on : (count last : ℕ) → blocksSeen s ≡ joined at count last (blocksFrom at (drop at s))
+          → blocksSeen s ≡ joined (at + size) count last (blocksFrom (at + size) (drop (at + size) s))
+      augmented-on count last so-far = on s at (head augmented size) (augmented-there s at one o e size z some) count last so-far some
 
 -- where the walk begins nothing was found yet
 pub at-first : (s : List ℕ) → blocksSeen s ≡ joined headerSize 0 0 (blocksFrom headerSize (drop headerSize s))

@@ -3,7 +3,8 @@
 use Prim.Native.Nat.{ℕ}
 use mathlib.Core.List.{List}
 use mathlib.Core.Path.{_≡_}
-use mathlib.Core.Bool.{cond}
+use mathlib.Core.Bool.{Bool, cond}
+use lib.Dec.{eqb}
 use lib.ListN.{length, getD, drop}
 use Rattle.wire.specs.Numbers.{byteAt, be16}
 use Rattle.rows.specs.Rows.{byFirst}
@@ -11,7 +12,7 @@ use Rattle.message.specs.declared.Header.{Header}
 use Rattle.message.specs.declared.Blocks.{Blocks}
 use Rattle.message.specs.declared.BlockHead.{BlockHead}
 use Rattle.message.specs.declared.Checked.{Checked}
-use Rattle.message.specs.Format.{standard, standardSize}
+use Rattle.message.specs.Format.{standard, augmented, standardSize}
 use Rattle.message.specs.Header.{headerOf}
 use Rattle.message.specs.Blocks.{begins, blocksFrom, standardPlaces, standards, blocksEnd, standardCount, lastStandard}
 use Rattle.message.specs.Check.{messageRows}
@@ -29,6 +30,14 @@ pub record StandardBlock (bytes : List ℕ) : Type 0 where
 -- no block
 abbrev pub noBlock : BlockHead
 noBlock = record { kind = 0; size = 0 }
+
+-- a block is of type 4
+abbrev pub isStandard : BlockHead → Bool
+isStandard block = eqb (block .kind) standard
+
+-- the length of one of type 5, 0 for any other
+abbrev pub augmentedSize : BlockHead → ℕ
+augmentedSize block = cond (eqb (block .kind) augmented) (block .size) 0
 
 -- the type and the length of the block that begins at a place, where one does
 unfoldable pub blockAt : List ℕ → ℕ → BlockHead

@@ -5,10 +5,10 @@ ghost use Prim.Native.Nat.{_≤_};
 ghost use lib.ListN.{length};
 ghost use Rattle.message.specs.Format.{headerSize};
 ghost use Rattle.message.specs.Header.{headerOf};
-ghost use Rattle.message.specs.Blocks.{fitsIn, rightForm, blocksEnd};
+ghost use Rattle.message.specs.Blocks.{rightForm, blocksEnd};
 ghost use Rattle.rows.specs.Rows.{firstOf};
 ghost use Rattle.message.specs.Check.{headerRows};
-ghost use Rattle.message.specs.Inside.{blockAt, blocksSeen, refusedMessage, checkOf};
+ghost use Rattle.message.specs.Inside.{isStandard, augmentedSize, blockAt, blocksSeen, refusedMessage, checkOf};
 
 pub const HEADER_SIZE: usize = 20;
 
@@ -29,6 +29,9 @@ const AUGMENTED: u8 = 5;
 
 pub const STANDARD_SIZE: usize = 52;
 
+// The same, as the block says it of itself.
+const STANDARD_LENGTH: u16 = STANDARD_SIZE as u16;
+
 // The places of the incoming, the outgoing and the upstream address in a Standard Response Block.
 pub const INCOMING_OFFSET: usize = 8;
 
@@ -45,9 +48,6 @@ const AUGMENTED_UNIT: usize = 4;
 
 // Bytes of the answer record that goes with a message sent.
 pub const NOTE_SIZE: usize = 16;
-
-// A block has at least its type and its length.
-const HEAD_SIZE: usize = 3;
 
 // The drop numbers of a message by itself.
 const DROP_SIZE: u32 = 5;
@@ -140,20 +140,35 @@ fn header_number(h: Header) -> u32
     row(!((h.kind == QUERY) | (h.kind == REQUEST)), DROP_TYPE, size)
 }
 
-// Whether a block of that type and length fits in the bytes that are left.
-fn fits_in(kind: u8, size: usize, left: usize) -> bool
-    ensures { λ r. ⌜ r ≡ fitsIn kind size left ⌝ }
+// Whether a Standard Response Block begins at a place.
+fn standard_at(s: &[u8], at: usize) -> bool
+    requires { ⌜ at ≤ length (now s) ⌝ }
+    ensures { λ r. ⌜ r ≡ isStandard (blockAt (now (s .entry)) at) ⌝ }
 {
-    (((kind == STANDARD) & (size == STANDARD_SIZE))
-        | ((kind == AUGMENTED) & (AUGMENTED_LEAST <= size) & (size % AUGMENTED_UNIT == 0)))
-        & (size <= left)
+    if s.len() - at < STANDARD_SIZE {
+        return false;
+    }
+    (s[at] == STANDARD) & (wire::be16(s, at + 1) == STANDARD_LENGTH)
 }
 
-// One of two numbers.
-fn either(first: bool, a: usize, b: usize) -> usize
-    ensures { λ r. ⌜ r ≡ cond first a b ⌝ }
+// The length of the Augmented Response Block that begins at a place; 0 where none does.
+fn augmented_at(s: &[u8], at: usize) -> usize
+    requires { ⌜ at ≤ length (now s) ⌝ }
+    ensures { λ r. ⌜ r ≡ augmentedSize (blockAt (now (s .entry)) at) ⌝ }
 {
-    if first { a } else { b }
+    let left = s.len() - at;
+    if left < AUGMENTED_LEAST {
+        return 0;
+    }
+    let size = wire::be16(s, at + 1) as usize;
+    let fits = (s[at] == AUGMENTED)
+        & (AUGMENTED_LEAST <= size)
+        & (size % AUGMENTED_UNIT == 0)
+        & (size <= left);
+    if fits {
+        return size;
+    }
+    0
 }
 
 // The block that begins at a place.
@@ -161,19 +176,24 @@ pub fn block_at(s: &[u8], at: usize) -> BlockHead
     requires { ⌜ at ≤ length (now s) ⌝ }
     ensures { λ r. ⌜ r ≡ blockAt (now (s .entry)) at ⌝ }
 {
-    let left = s.len() - at;
-    if left < HEAD_SIZE {
+    if standard_at(s, at) {
+        return BlockHead {
+            kind: STANDARD,
+            size: STANDARD_SIZE,
+        };
+    }
+    let size = augmented_at(s, at);
+    if size == 0 {
         return BlockHead { kind: 0, size: 0 };
     }
-    let kind = s[at];
-    let size = wire::be16(s, at + 1) as usize;
-    if !fits_in(kind, size, left) {
-        return BlockHead { kind: 0, size: 0 };
+    BlockHead {
+        kind: AUGMENTED,
+        size,
     }
-    BlockHead { kind, size }
 }
 
-// One walk over the blocks of a message, from each to the next by its length, up to the end or to what is no block.
+// One walk over the blocks of a message, from each to the next by its length, up to the end or to what is no block. Most
+// blocks are of type 4, which is tried first.
 pub fn blocks_of(s: &[u8]) -> Blocks
     requires { ⌜ headerSize ≤ length (now s) ⌝ }
     ensures { λ r. ⌜ r ≡ blocksSeen (now (s .entry)) ⌝ }
@@ -182,17 +202,21 @@ pub fn blocks_of(s: &[u8]) -> Blocks
     let mut count: usize = 0;
     let mut last: usize = 0;
     loop {
-        let block = block_at(s, at);
-        if block.size == 0 {
-            return Blocks {
-                end: at,
-                count,
-                last,
-            };
+        if standard_at(s, at) {
+            count += 1;
+            last = at;
+            at += STANDARD_SIZE;
+        } else {
+            let size = augmented_at(s, at);
+            if size == 0 {
+                return Blocks {
+                    end: at,
+                    count,
+                    last,
+                };
+            }
+            at += size;
         }
-        count = either(block.kind == STANDARD, count + 1, count);
-        last = either(block.kind == STANDARD, at, last);
-        at += block.size;
     }
 }
 

@@ -1,33 +1,50 @@
--- What each turn of the loops of `zero_from` and `seen` shows, and the stores of `enter` put together.
+-- What each turn of the loops of `zero_from` and `seen` shows, the ways out of `check`, and the stores of `enter` put together.
 use Prim.Native.Nat.{ℕ, zero, suc, _+_, _-_, _≤_, _<_}
-use mathlib.Core.Path.{_≡_, sym, _∙_}
-use mathlib.Core.Bool.{Bool, true, false, _||_}
+use mathlib.Core.Path.{_≡_, refl, sym, _∙_}
+use mathlib.Core.Bool.{Bool, true, false, _&&_, _||_, and-true, and-assoc}
 use mathlib.Core.List.{List, [], _∷_, _++_}
 use native.Mathlib.Omega.{arith}
 use native.Mathlib.Numerals.{add-one}
-use borrow.Author.Tests.{ne-eqb, eq-eqb}
+use borrow.Author.Tests.{eq-eqb, ne-eqb}
+use lib.Bits.{bitOr, or-add-and, and-le-r}
+use lib.Dec.{leb, ltb, eqb}
 use lib.ListN.{length, drop, set, length-append, drop-of-length-le}
 use lib.Seq.{drop-cons, sets-eq}
 use Rattle.wire.specs.Numbers.{byteAt, bytes32, bytes16}
-use Rattle.recent.specs.Layout.{clientSize, used, next, recentPlace}
+use Rattle.recent.specs.Layout.{clientSize, entryCount, listSize, used, next, recentPlace, wellFormed}
 use Rattle.recent.specs.Inside.{Formed}
 use Rattle.recent.specs.Entries.{recentEntry, firstEntries, isOf, someIsOf, seenIn, grown, movedOn, enteredIn}
 use Rattle.wire.specs.Parts.{splice, allZero}
 use Rattle.wire.proofs.Laws.{length-bytes, length-splice, splice-join, splice-front}
 
--- a byte and the bytes after it
-module _ (s : List ℕ) (at i : ℕ) (so-far : allZero (drop at s) ≡ allZero (drop i s)) (here : i < length s) where
-  pub zero-on : byteAt s i ≡ 0 → allZero (drop at s) ≡ allZero (drop (i + 1) s)
-  unfolding allZero
-  zero-on e = rw (so-far, drop-cons s i 0, add-one, eq-eqb _ _ e)
+-- no bit is set in two numbers together exactly where none is in either
+or-zero : (a b : ℕ) → eqb (bitOr a b) 0 ≡ (eqb a 0 && eqb b 0)
+or-zero zero b = refl
+or-zero (suc a) b =
+    rw (ne-eqb (bitOr (suc a) b) 0 (λ e. omega (arith, or-add-and (suc a) b, and-le-r (suc a) b)), ne-eqb (suc a) 0 (λ e. omega arith))
 
-  pub zero-broken : (byteAt s i ≡ 0 → ⊥) → false ≡ allZero (drop at s)
+-- the bits of the bytes passed, and the bytes that are left
+module _ (s : List ℕ) (at i bits : ℕ) (so-far : allZero (drop at s) ≡ (eqb bits 0 && allZero (drop i s))) where
+  pub zero-on : i < length s → allZero (drop at s) ≡ (eqb (bitOr bits (byteAt s i)) 0 && allZero (drop (i + 1) s))
   unfolding allZero
-  zero-broken n = rw (so-far, drop-cons s i 0, ne-eqb _ _ n)
+  zero-on h = rw (so-far, drop-cons s i 0, add-one, or-zero) (sym (and-assoc (eqb bits 0) _ _))
 
-pub zero-ended : (s : List ℕ) (at i : ℕ) → allZero (drop at s) ≡ allZero (drop i s) → length s ≤ i → true ≡ allZero (drop at s)
-unfolding allZero
-zero-ended s at i e h = rw (e, drop-of-length-le s {i = i} h)
+  pub zero-ended : length s ≤ i → eqb bits 0 ≡ allZero (drop at s)
+  unfolding allZero
+  zero-ended h = rw (so-far, drop-of-length-le s {i = i} h, and-true)
+
+-- the ways out of `check` past the length: the head is right and the rest is said of the unused bytes, or it is wrong
+module _ (s : List ℕ) (whole : length s ≡ listSize) where
+  abbrev rightHead : Bool
+  rightHead = leb (used s) entryCount && ltb (next s) entryCount && (eqb (used s) entryCount || eqb (next s) (used s)) && eqb (byteAt s 2) 0 && eqb (byteAt s 3) 0
+
+  pub head-right : (at : ℕ) (rest : Bool) → rightHead ≡ true → at ≡ recentPlace (used s) → rest ≡ allZero (drop at s) → rest ≡ wellFormed s
+  unfolding wellFormed
+  head-right at rest e p z = rw (eq-eqb _ _ whole, e, z, p)
+
+  pub head-wrong : rightHead ≡ false → false ≡ wellFormed s
+  unfolding wellFormed
+  head-wrong e = rw (eq-eqb _ _ whole, e)
 
 -- the first k entries are the last of them and those before it
 one-more : (s : List ℕ) (client id k : ℕ) → 0 < k

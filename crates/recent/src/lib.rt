@@ -25,21 +25,20 @@ fn recent_place(k: u8) -> usize
     HEAD_SIZE + ENTRY_SIZE * (k as usize)
 }
 
-// Whether every byte from `at` on is zero.
+// Whether every byte from `at` on is zero. There is no way out of the loop before its end, so that many bytes are taken in at once.
 fn zero_from(list: &[u8], at: usize) -> bool
     ensures { λ r. ⌜ r ≡ allZero (drop at (now (list .entry))) ⌝ }
 {
+    let mut bits: u8 = 0;
     let mut i = at;
     while i < list.len() {
-        if list[i] != 0 {
-            return false;
-        }
+        bits = bits | list[i];
         i += 1;
     }
-    true
+    bits == 0
 }
 
-// Whether a list is well-formed.
+// Whether a list is well-formed. The head is tested first: only a good one is worth the pass over the unused bytes.
 pub fn check(list: &[u8]) -> bool
     ensures { λ r. ⌜ r ≡ wellFormed (now (list .entry)) ⌝ }
 {
@@ -48,12 +47,15 @@ pub fn check(list: &[u8]) -> bool
     }
     let used = list[0];
     let next = list[1];
-    (used <= ENTRY_COUNT)
+    let head = (used <= ENTRY_COUNT)
         & (next < ENTRY_COUNT)
         & ((used == ENTRY_COUNT) | (next == used))
         & (list[2] == 0)
-        & (list[3] == 0)
-        & zero_from(list, recent_place(used))
+        & (list[3] == 0);
+    if head {
+        return zero_from(list, recent_place(used));
+    }
+    false
 }
 
 // Whether entry k is of this client and this id.

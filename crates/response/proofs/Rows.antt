@@ -13,9 +13,14 @@ use Rattle.route.specs.declared.Chosen.the-variants.{Found, Nothing}
 use Rattle.response.specs.declared.View.{View}
 use Rattle.response.specs.declared.Filled.{Filled}
 use Rattle.rows.specs.Rows.{byFirst, firstOf}
-use Rattle.response.specs.Code.{codeWrongLastHop, codeNoRoute, wrongLastHop, codesFor, codes, codeOf}
-use Rattle.response.specs.Inside.{RouteFits}
+use Rattle.response.specs.Code.{codeWrongLastHop, codeNoRoute, wrongLastHop, scoped, codesFor, codes, codeOf}
+use Rattle.response.specs.Inside.{lateCodes, RouteFits}
 use Rattle.response.specs.Fill.{noSourceMask, maskOf, sOf, sBit, sAndMask, filledOf, unfilled, fillFor, endsTrace}
+
+-- the codes from SCOPED on, by what `in_scope` answered
+pub late-told : (v : View) (r : Route) (inScope : Bool) (code : ℕ) → inScope ≡ scoped v → code ≡ firstOf (lateCodes inScope r (v .number))
+    → code ≡ firstOf (lateCodes (scoped v) r (v .number))
+late-told v r inScope code e h = rw (← e) h
 
 module _ (v : View) (r : Route) (found : v .chosen ≡ Found r) where
   pub code-found : (code : ℕ) → code ≡ firstOf (codesFor v (Found r)) → code ≡ codeOf v

@@ -123,16 +123,17 @@ fn in_scope(v: View) -> bool
         & (entry::is_boundary(v.here) | boundary_on(incoming))
 }
 
-// The first code from SCOPED on that applies, where a route was chosen.
-fn late_code(v: View, r: Route) -> u8
-    requires { ⌜ v .number < mostInterfaces ⌝ }
-    ensures { λ code. ⌜ code ≡ firstOf (lateCodes v r) ⌝ }
+// The first code from SCOPED on that applies, where a route was chosen. It takes of the view what it looks at: a view lent whole
+// would have to be written to memory first.
+fn late_code(scoped: bool, r: Route, number: usize) -> u8
+    requires { ⌜ number < mostInterfaces ⌝ }
+    ensures { λ code. ⌜ code ≡ firstOf (lateCodes scoped r number) ⌝ }
 {
-    let number = v.number as usize;
-    if in_scope(v) {
+    let sent = entry::prune_sent(r);
+    if scoped {
         return CODE_SCOPED;
     }
-    if entry::prune_sent(r) {
+    if sent {
         return CODE_PRUNE_SENT;
     }
     if entry::in_map(r.pruned, number) {
@@ -164,10 +165,11 @@ fn code_on(v: View, r: Route) -> u8
     if v.number == r.incoming as u32 {
         return CODE_RPF_IF;
     }
-    if !entry::in_map(r.forward, v.number as usize) {
+    let number = v.number as usize;
+    if !entry::in_map(r.forward, number) {
         return CODE_WRONG_IF;
     }
-    late_code(v, r)
+    late_code(in_scope(v), r, number)
 }
 
 // The first code that applies.

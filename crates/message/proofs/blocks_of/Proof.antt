@@ -7,7 +7,7 @@ use borrow.Author.Needs.{needs}
 use lib.ListN.{length, drop}
 use Rattle.message.specs.Blocks.{blocksFrom}
 use Rattle.message.specs.Inside.{blocksSeen}
-use Rattle.message.proofs.Turns.{joined, at-first, stopped, one-on, count-inside, size-inside, moves-on}
+use Rattle.message.proofs.Turns.{joined, at-first, stopped, standard-on, standard-inside, standard-moves, augmented-on, augmented-inside, augmented-moves}
 use Rattle.message.proofs.blocks_of.Statement.{statement}
 use Rattle.message.proofs.blocks_of.Tie as tie
 
@@ -21,19 +21,26 @@ abbrev μ-loop : tie.MeasureT-loop
 loop-holds : tie.Need-loop-holds Inv-loop μ-loop
 loop-holds c = (search needs, search needs, search at-first)
 
+loop-less : tie.Need-loop-less Inv-loop μ-loop
+loop-less c = search standard-moves
+
+loop-again : tie.Need-loop-again Inv-loop μ-loop
+loop-again c = (search standard-inside, search needs, search standard-on)
+
 returns : tie.Need-returns Inv-loop μ-loop
 returns c = search stopped
 
-add-at : tie.Need-add-at Inv-loop μ-loop
-add-at c =
-    let b = c .before .before .before .before .before .before .before in
-    omega (arith, size-inside _ _ _ (b .block-at .ensures) (c .before .before .before .before .before .if1 .left) (b .before .loop .inv .0))
+add-at-2 : tie.Need-add-at-2 Inv-loop μ-loop
+add-at-2 c =
+    let b = c .before .before in
+    let inside = augmented-inside _ _ _ (b .before .standard-at .ensures) (b .if1 .left) _ (c .before .augmented-at .ensures) (c .if2 .left) in
+    omega (arith, inside (b .before .before .loop .inv .0))
 
-loop-less : tie.Need-loop-less Inv-loop μ-loop
-loop-less c = search moves-on
+loop-less-2 : tie.Need-loop-less-2 Inv-loop μ-loop
+loop-less-2 c = search augmented-moves
 
-loop-again : tie.Need-loop-again Inv-loop μ-loop
-loop-again c = (search size-inside, search count-inside, search one-on)
+loop-again-2 : tie.Need-loop-again-2 Inv-loop μ-loop
+loop-again-2 c = (search augmented-inside, search needs, search augmented-on)
 
 pub blocks-of-spec : {M : Type 1} → statement M
 blocks-of-spec =
@@ -43,10 +50,12 @@ blocks-of-spec =
     μ-loop
     loop-holds
     (λ c κs. search needs)
-    returns
     (λ c. search needs)
-    (λ c κs. search needs)
-    (λ c κs. search needs)
-    add-at
+    (λ c. search needs)
     loop-less
-    loop-again)
+    loop-again
+    (λ c κs. search needs)
+    returns
+    add-at-2
+    loop-less-2
+    loop-again-2)

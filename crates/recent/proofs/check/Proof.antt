@@ -1,6 +1,7 @@
--- `check`: past the length, the tests are the rules in their order.
-use borrow.Author.Tests.{eq-eqb, ne-eqb}
+-- `check`: past the length, the tests of the head are the rules in their order, and the last rule is that of the unused bytes.
+use borrow.Author.Tests.{ne-eqb}
 use Rattle.recent.specs.Layout.{wellFormed}
+use Rattle.recent.proofs.Turns.{head-right, head-wrong}
 use borrow.Author.Needs.{needs}
 use Rattle.recent.proofs.check.Statement.{statement}
 use Rattle.recent.proofs.check.Tie as tie
@@ -10,9 +11,10 @@ unfolding wellFormed
 returns c = simp (ne-eqb _ _ (c .if1 .taken))
 
 returns-2 : tie.Need-returns-2
-unfolding wellFormed
-returns-2 c =
-    rw (eq-eqb _ _ (c .before .before .before .before .before .before .if1 .left), c .zero-from .ensures, c .before .recent-place .ensures .0)
+returns-2 c = search head-right
+
+returns-3 : tie.Need-returns-3
+returns-3 c = search head-wrong
 
 pub check-spec : {M : Type 1} → statement M
 check-spec =
@@ -25,4 +27,5 @@ check-spec =
     (λ c. search needs)
     (λ c κs. search needs)
     (λ c κs. search needs)
-    returns-2)
+    returns-2
+    returns-3)

@@ -1,6 +1,7 @@
 -- `code_on`: each way out is the first row that applies.
 use Rattle.rows.specs.Rows.{byFirst}
 use Rattle.rows.proofs.Laws.{first}
+use Rattle.response.proofs.Rows.{late-told}
 use borrow.Author.Needs.{needs}
 use Rattle.response.proofs.code_on.Statement.{statement}
 use Rattle.response.proofs.code_on.Tie as tie
@@ -22,4 +23,5 @@ code-on-spec =
     (λ c κs. search needs)
     (λ c. search first depth 30 fits 4000)
     (λ c κs. search needs)
-    (λ c. search first depth 30 fits 4000))
+    (λ c κs. search needs)
+    (λ c. search (first, late-told) depth 30 fits 4000))

@@ -10,10 +10,8 @@ unfolding byFirst
 late-code-spec =
     tie.close
     (tie.spec
-    (λ c. search needs)
     (λ c κs. search needs)
     (λ c. search first depth 30 fits 4000)
-    (λ c κs. search needs)
     (λ c. search first depth 30 fits 4000)
     (λ c κs. search needs)
     (λ c. search first depth 30 fits 4000)
