@@ -50,21 +50,35 @@ module _ (s : List ℕ) (l : Layout) (k : ℕ) (el : l ≡ layoutOf s) (there : 
   unfolding routeOf
   route-read at r e f = f ∙ rw (e, blocks-told)
 
+-- a route begins past its number
+place-past : (first k : ℕ) → k < placeOf routeSize first k
+place-past first k = omega arith
+
 -- the routes beside a route, up to the end of its block
 module _ (s : List ℕ) (l : Layout) (k : ℕ) (el : l ≡ layoutOf s) (there : k < l .routes) (at count : ℕ)
     (placed : at ≡ placeOf routeSize (l .blocks) k)
     (beside : count ≡ min (l .routes - k) (entriesEach routeSize - k % entriesEach routeSize)) where
-  pub beside-some : 0 < count
+  beside-some : 0 < count
   beside-some = omega arith
 
   in-row : (j : ℕ) → j < count → at + routeSize * j ≡ placeOf routeSize (l .blocks) (k + j)
   in-row j h = omega arith
 
+  last-low : k + (count - 1) < at + routeSize * (count - 1)
+  last-low = rw (in-row (count - 1) (omega (arith, beside-some))) (place-past (l .blocks) (k + (count - 1)))
+
+  last-within : at + routeSize * (count - 1) + routeSize ≤ length s
+  last-within =
+      let j : ℕ = count - 1 in
+      let h : j < count = omega (arith, beside-some) in
+      route-within s l (k + j) el (omega arith) (at + routeSize * j) (in-row j h)
+
   pub routes-beside : Beside s k at count
   routes-beside =
       record {
         there = rw (← el) (omega arith);
-        bytes = let j : ℕ = count - 1 in omega (arith, route-within s l (k + j) el (omega (arith, beside-some)) (at + routeSize * j) (in-row j (omega (arith, beside-some))));
+        few = omega (arith, last-low, last-within);
+        bytes = omega (arith, last-within, beside-some);
         each = λ j h. sym (route-read s l (k + j) el (omega arith) (at + routeSize * j) (routeAt s (at + routeSize * j)) (in-row j h) refl);
       }
 

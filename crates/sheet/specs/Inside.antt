@@ -28,5 +28,6 @@ blockOkWith s m interfaces k =
 -- so many routes from route `first` on stand side by side, from a place on
 pub record Beside (s : List ℕ) (first at count : ℕ) : Type 0 where
   pub there : first + count ≤ layoutOf s .routes
+  pub few : first + count ≤ length s
   pub bytes : at + routeSize * count ≤ length s
   pub each : (j : ℕ) → j < count → routeOf s (first + j) ≡ routeAt s (at + routeSize * j)
