@@ -1,6 +1,6 @@
 -- Inside: what only the contracts of this crate's own functions cite. No entry's promise rests on it, and a reader of the definitions may pass it over.
 -- Here: how one pass finds the route. Every route has a rank for a source and a group, and the first of the highest rank is
--- the one; 0 serves not at all.
+-- the one; 0 serves not at all. And how one pass over a map finds an interface.
 use Prim.Native.Nat.{ℕ, zero, suc, _+_, _%_}
 use mathlib.Core.Bool.{Bool, true, false, not, _&&_, _||_, cond}
 use mathlib.Core.List.{List}
@@ -56,13 +56,13 @@ ranksIn sheet source group k = rankOf source group (routeOf sheet k)
 unfoldable pub ofSource : ℕ → Route → Bool
 ofSource source r = not (allOnes source) && samePrefix (r .length) (r .source) source
 
--- a route that keeps the rules has a rank, by its kind: of kind 3 the source counts, of kind 2 the group, of kind 1 both
+-- a route that keeps the rules has a rank above 0 where it serves so: of kind 3 the source counts, of kind 2 the group, of kind 1 both
 unfoldable pub serves : ℕ → ℕ → Route → Bool
 serves source group r =
     cond (eqb (r .kind) sourceOnly) (ofSource source r)
     (cond (not (eqb (r .group) group)) false (cond (eqb (r .kind) groupOnly) true (ofSource source r)))
 
--- and this one
+-- its rank is then by its kind and the length of its source prefix
 unfoldable pub rankAs : ℕ → ℕ → ℕ
 rankAs kind bits = cond (eqb kind groupOnly) (groupRank + bits) (cond (eqb kind sourceOnly) (sourceRank + bits) (bothRank + bits))
 

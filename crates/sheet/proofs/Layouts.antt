@@ -23,10 +23,12 @@ same-rules : (s : List ℕ) → blockOkAt s ≡ blockOkWith s (interfaceBlocks s
 unfolding blockOkAt blockOkWith
 same-rules s = refl
 
-module _ (s : List ℕ) (size : Bool) (es : size ≡ sheetSizeOk (length s)) where
-  refused : (r : Layout) → (Valid s → ⊥) → r ≡ noLayout → r ≡ layoutOf s
-  refused r no′ f = layout-cases (λ (l : Layout). r ≡ l) s (λ e. absurd (no′ (valid s e))) (λ e. f)
+-- a sheet that cannot be valid
+refused : (s : List ℕ) (r : Layout) → (Valid s → ⊥) → r ≡ noLayout → r ≡ layoutOf s
+refused s r no′ f = layout-cases (λ (l : Layout). r ≡ l) s (λ e. absurd (no′ (valid s e))) (λ e. f)
 
+-- what the code has found out, test by test
+module _ (s : List ℕ) (size : Bool) (es : size ≡ sheetSizeOk (length s)) where
   pub bad-size : (r : Layout) → not size ≡ true → r ≡ noLayout → r ≡ layoutOf s
   unfolding layoutOf validSheet
   bad-size r h f = f ∙ rw (← es, not-true size h)
@@ -43,7 +45,7 @@ module _ (s : List ℕ) (size : Bool) (es : size ≡ sheetSizeOk (length s)) whe
       few-rest = omega (arith, lead .within, few-blocks)
 
       pub no-interface-block : (r : Layout) → m ≡ 0 → r ≡ noLayout → r ≡ layoutOf s
-      no-interface-block r z = refused r (λ v. omega (arith, v .some, leading-valid s m lead v))
+      no-interface-block r z = refused s r (λ v. omega (arith, v .some, leading-valid s m lead v))
 
       module _ (some : m ≡ 0 → ⊥) (interfaces : ℕ) (ei : interfaces ≡ entriesIn s (entriesEach interfaceSize) 0 m) where
         interfaces-told : m ≡ interfaceBlocks s → interfaces ≡ interfacesIn s
@@ -51,14 +53,14 @@ module _ (s : List ℕ) (size : Bool) (es : size ≡ sheetSizeOk (length s)) whe
         interfaces-told e = ei ∙ rw e
 
         pub many-interfaces : (r : Layout) → mostInterfaces < interfaces → r ≡ noLayout → r ≡ layoutOf s
-        many-interfaces r k = refused r (λ v. omega (arith, v .few, interfaces-told (leading-valid s m lead v)))
+        many-interfaces r k = refused s r (λ v. omega (arith, v .few, interfaces-told (leading-valid s m lead v)))
 
         module _ (few : interfaces ≤ mostInterfaces) (ok : Bool) (eo : ok ≡ every (blockOkWith s m interfaces) (blocks s)) where
           told : m ≡ interfaceBlocks s → ok ≡ every (blockOkAt s) (blocks s)
           told e = eo ∙ rw (same-rules s, ← e, ← interfaces-told e)
 
           pub bad-block : (r : Layout) → not ok ≡ true → r ≡ noLayout → r ≡ layoutOf s
-          bad-block r k = refused r (λ v. let z : _≡_ {A = ℕ} 0 1 = cc (told (leading-valid s m lead v), v .all, not-true ok k) in omega arith)
+          bad-block r k = refused s r (λ v. let z : _≡_ {A = ℕ} 0 1 = cc (told (leading-valid s m lead v), v .all, not-true ok k) in omega arith)
 
           pub laid-out : (routes : ℕ) → routes ≡ entriesIn s (entriesEach routeSize) m (blocks s - m) → not ok ≡ false
               → record { valid = true; blocks = m; interfaces = interfaces; routes = routes } ≡ layoutOf s

@@ -48,7 +48,7 @@ fn byte_of(s: &[u8], k: usize, j: usize) -> usize
 }
 
 // How many interface blocks stand before the first block of another kind, among the first `n`. In a sheet that keeps the rules
-// they are all there are; any other is refused by a later block.
+// there are no others; where there are, one of them breaks the rules on route blocks.
 fn interface_blocks(s: &[u8], n: usize) -> usize
     requires { ⌜ blockSize * n ≤ length (now s) ⌝ }
     ensures { λ r. ⌜ Leading (now (s .entry)) n r ⌝ }
