@@ -1,9 +1,8 @@
 -- A law for each way out of a function: what its tests showed and what its callees answered, and the definition's answer.
-use Prim.Native.Nat.{ℕ, _+_, _<_}
+use Prim.Native.Nat.{ℕ, _+_}
 use mathlib.Core.Bool.{Bool, true, false, not, _&&_}
 use mathlib.Core.List.{List, _++_}
 use mathlib.Core.Path.{_≡_, refl, sym, ap, _∙_}
-use native.Mathlib.Omega.{arith}
 use lib.Dec.{eqb}
 use borrow.Author.Tests.{eq-eqb, ne-eqb}
 use Rattle.wire.specs.Addresses.{linkScoped}
@@ -22,13 +21,12 @@ use Rattle.message.specs.Header.{headerOf}
 use Rattle.message.specs.Blocks.{standardCount}
 use Rattle.message.specs.Check.{headerRows, messageRows}
 use Rattle.message.specs.Inside.{acceptedMessage, checkOf, blocksSeen}
-use Rattle.message.proofs.Laws.{check-number, check-accepts, accepts-as}
+use Rattle.message.proofs.Laws.{check-number, accepts-as}
 use Rattle.drops.specs.declared.Verdict.{Verdict}
 use Rattle.drops.specs.Arrival.{arrival, isQuery, routeFor, lastHopFor}
 use Rattle.rows.specs.Rows.{Row, byFirst, firstOf}
 use Rattle.rows.proofs.Laws.{given-alone, none-alone, given-by, none-by}
-use Rattle.message.specs.Format.{query, standardSize}
-use lib.ListN.{length}
+use Rattle.message.specs.Format.{query}
 use Rattle.message.specs.Room.{isFull}
 use Rattle.drops.specs.Drop.{dropLastHop, dropNoPrev, isHeld, lendingRows, deliveryRows, routeRows, table}
 use Rattle.drops.specs.Inside.{sheetRows, dropVerdict, passVerdict, routedOf, judgedOf}
@@ -157,6 +155,3 @@ module _ (m : List ℕ) (destination receiving ttl : ℕ) (s r : List ℕ) where
           let blocks : k .blocks ≡ blocksSeen m = ap (λ (x : Checked). x .blocks) as-is in
           e
           ∙ rw (header, blocks) (sym (not-sheet ∙ none-by dropVerdict pass (messageRows m) last (k .number) (check-number m k checked) refl z))
-
-      pub judged-fits : k .number ≡ 0 → length m + standardSize < 18446744073709551616
-      judged-fits z = omega (arith, check-accepts m k checked z .high)

@@ -1,5 +1,7 @@
 -- Laws that the crates above cite; and `Determined`: each promise leaves one answer.
 mod Ranks
+mod ByKind
 mod Turns
+mod Reached
 pub mod Laws
 pub mod Determined

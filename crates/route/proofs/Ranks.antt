@@ -28,7 +28,7 @@ better-up : (b : Best) (n k : ℕ) → b .rank < n → better b n k ≡ best n k
 unfolding better
 better-up b n k h = rw (lt-ltb (b .rank) n h)
 
-better-same : (b : Best) (n k : ℕ) → n ≤ b .rank → better b n k ≡ b
+pub better-same : (b : Best) (n k : ℕ) → n ≤ b .rank → better b n k ≡ b
 unfolding better
 better-same b n k h = rw (le-ltb (b .rank) n h)
 

@@ -1,12 +1,15 @@
 -- Inside: what only the contracts of this crate's own functions cite. No entry's promise rests on it, and a reader of the definitions may pass it over.
 -- Here: how one pass finds the route. Every route has a rank for a source and a group, and the first of the highest rank is
--- the one; 0 serves not at all.
-use Prim.Native.Nat.{ℕ, zero, suc, _+_}
-use mathlib.Core.Bool.{Bool, not, _&&_, _||_, cond}
+-- the one; 0 serves not at all. And how one pass over a map finds an interface.
+use Prim.Native.Nat.{ℕ, zero, suc, _+_, _%_}
+use mathlib.Core.Bool.{Bool, true, false, not, _&&_, _||_, cond}
 use mathlib.Core.List.{List}
-use lib.Dec.{ltb}
+use lib.Dec.{ltb, eqb}
 use Rattle.wire.specs.Addresses.{allOnes}
-use Rattle.entry.specs.Prefix.{addressBits}
+use Rattle.entry.specs.Prefix.{addressBits, samePrefix}
+use Rattle.entry.specs.Interface.{isMulticast}
+use Rattle.entry.specs.Route.{groupOnly, sourceOnly}
+use Rattle.entry.specs.declared.interface.Interface.{Interface}
 use Rattle.entry.specs.declared.route.Route.{Route}
 use Rattle.sheet.specs.Tables.{routeOf}
 use Rattle.route.specs.declared.Best.{Best}
@@ -49,6 +52,20 @@ rankOf source group = rankBy (asBoth source group) (asGroup source group) (asSou
 unfoldable pub ranksIn : List ℕ → ℕ → ℕ → ℕ → ℕ
 ranksIn sheet source group k = rankOf source group (routeOf sheet k)
 
+-- there is a source, and the route's source prefix matches it
+unfoldable pub ofSource : ℕ → Route → Bool
+ofSource source r = not (allOnes source) && samePrefix (r .length) (r .source) source
+
+-- a route that keeps the rules has a rank above 0 where it serves so: of kind 3 the source counts, of kind 2 the group, of kind 1 both
+unfoldable pub serves : ℕ → ℕ → Route → Bool
+serves source group r =
+    cond (eqb (r .kind) sourceOnly) (ofSource source r)
+    (cond (not (eqb (r .group) group)) false (cond (eqb (r .kind) groupOnly) true (ofSource source r)))
+
+-- its rank is then by its kind and the length of its source prefix
+unfoldable pub rankAs : ℕ → ℕ → ℕ
+rankAs kind bits = cond (eqb kind groupOnly) (groupRank + bits) (cond (eqb kind sourceOnly) (sourceRank + bits) (bothRank + bits))
+
 -- a rank, and the place of the route that has it
 abbrev pub best : ℕ → ℕ → Best
 best rank at = record { rank = rank; at = at }
@@ -61,3 +78,7 @@ better b rank k = cond (ltb (b .rank) rank) (best rank k) b
 unfoldable pub bestOf : (ℕ → ℕ) → ℕ → Best
 bestOf rank zero = best 0 0
 bestOf rank (suc n) = better (bestOf rank n) (rank n) n
+
+-- what is left of a map has its lowest bit set, and the interface of that bit is multicast and has the client in its subnet
+unfoldable pub reachesBy : ℕ → ℕ → Interface → Bool
+reachesBy map client i = cond (eqb (map % 2) 0) false (isMulticast i && samePrefix (i .length) (i .address) client)

@@ -1,17 +1,18 @@
 // Which route serves a source and a group, and whether a router is the proper last hop for a client.
-use entry::Interface;
 use entry::Route;
 use sheet::Layout;
+ghost use mathlib.Core.Bool.{true};
 ghost use mathlib.Core.Path.{_≡_};
-ghost use Prim.Native.Nat.{_≤_, _<_};
+ghost use Prim.Native.Nat.{_+_, _≤_, _<_};
 ghost use lib.ListN.{length};
 ghost use Rattle.entry.specs.Prefix.{addressBits};
-ghost use Rattle.entry.specs.Interface.{mostInterfaces};
+ghost use Rattle.entry.specs.Route.{routeSize, routeAt, routeOk};
 ghost use Rattle.sheet.specs.Sheet.{layoutOf};
 ghost use Rattle.sheet.specs.Tables.{interfaceOf, routesOf};
+ghost use Rattle.sheet.specs.Inside.{Beside};
 ghost use Rattle.route.specs.Choice.{whichRoute};
-ghost use Rattle.route.specs.LastHop.{reaches, someReaches, properLastHop};
-ghost use Rattle.route.specs.Inside.{asBoth, asGroup, asSource, rankOf, ranksIn, better, bestOf};
+ghost use Rattle.route.specs.LastHop.{someReaches, properLastHop};
+ghost use Rattle.route.specs.Inside.{ofSource, serves, rankAs, rankOf, ranksIn, better, bestOf, reachesBy};
 
 // The lowest rank of kind 3.
 const SOURCE_RANK: u8 = 1;
@@ -34,47 +35,45 @@ struct Best {
     at: usize,
 }
 
-fn as_both(r: Route, source: u32, group: u32) -> bool
-    requires { ⌜ r .length ≤ addressBits ⌝ }
-    ensures { λ b. ⌜ b ≡ asBoth source group r ⌝ }
+// Whether there is a source, and the source prefix of the route at a place matches it.
+fn of_source(s: &[u8], at: usize, source: u32) -> bool
+    requires { ⌜ (at + routeSize ≤ length (now s)) × (routeAt (now s) at .length ≤ addressBits) ⌝ }
+    ensures { λ b. ⌜ b ≡ ofSource source (routeAt (now (s .entry)) at) ⌝ }
 {
     !wire::all_ones(source)
-        & !wire::all_ones(group)
-        & ((r.kind == entry::SOURCE_AND_GROUP)
-            & (r.group == group)
-            & entry::same_prefix(r.length, r.source, source))
+        & entry::same_prefix(entry::length_at(s, at), entry::source_at(s, at), source)
 }
 
-fn as_group(r: Route, source: u32, group: u32) -> bool
-    ensures { λ b. ⌜ b ≡ asGroup source group r ⌝ }
+// Whether the route at a place serves a source and a group. Its kind says which fields are looked at; no other is read.
+fn serves(s: &[u8], at: usize, source: u32, group: u32) -> bool
+    requires { ⌜ (at + routeSize ≤ length (now s)) × (routeAt (now s) at .length ≤ addressBits) ⌝ }
+    ensures { λ b. ⌜ b ≡ serves source group (routeAt (now (s .entry)) at) ⌝ }
 {
-    (wire::all_ones(source) | !wire::all_ones(group))
-        & ((r.kind == entry::GROUP_ONLY) & (r.group == group))
+    let kind = entry::kind_at(s, at);
+    if kind == entry::SOURCE_ONLY {
+        return of_source(s, at, source);
+    }
+    if entry::group_at(s, at) != group {
+        return false;
+    }
+    if kind == entry::GROUP_ONLY {
+        return true;
+    }
+    of_source(s, at, source)
 }
 
-fn as_source(r: Route, source: u32) -> bool
-    requires { ⌜ r .length ≤ addressBits ⌝ }
-    ensures { λ b. ⌜ b ≡ asSource source r ⌝ }
+// The rank of a route that serves, by its kind and the length of its source prefix.
+fn rank(kind: u8, bits: u8) -> u8
+    requires { ⌜ bits ≤ addressBits ⌝ }
+    ensures { λ n. ⌜ n ≡ rankAs kind bits ⌝ }
 {
-    !wire::all_ones(source)
-        & ((r.kind == entry::SOURCE_ONLY) & entry::same_prefix(r.length, r.source, source))
-}
-
-// The rank of a route for a source and a group; 0 where it does not serve.
-fn rank(r: Route, source: u32, group: u32) -> u8
-    requires { ⌜ r .length ≤ addressBits ⌝ }
-    ensures { λ n. ⌜ n ≡ rankOf source group r ⌝ }
-{
-    if as_both(r, source, group) {
-        return BOTH_RANK + r.length;
+    if kind == entry::GROUP_ONLY {
+        return GROUP_RANK + bits;
     }
-    if as_group(r, source, group) {
-        return GROUP_RANK + r.length;
+    if kind == entry::SOURCE_ONLY {
+        return SOURCE_RANK + bits;
     }
-    if as_source(r, source) {
-        return SOURCE_RANK + r.length;
-    }
-    0
+    BOTH_RANK + bits
 }
 
 // The best so far, with the route at `k` and its rank.
@@ -87,7 +86,41 @@ fn better(b: Best, rank: u8, k: usize) -> Best
     b
 }
 
-// One pass over the routes of a valid sheet.
+// The best so far, with the route at a place, which is route `k`.
+fn best_with(b: Best, s: &[u8], at: usize, k: usize, source: u32, group: u32) -> Best
+    requires { ⌜ (at + routeSize ≤ length (now s)) × (routeOk (layoutOf (now s) .interfaces) (routeAt (now s) at) ≡ true) ⌝ }
+    ensures { λ r. ⌜ r ≡ better b (rankOf source group (routeAt (now (s .entry)) at)) k ⌝ }
+{
+    if !serves(s, at, source, group) {
+        return b;
+    }
+    better(b, rank(entry::kind_at(s, at), entry::length_at(s, at)), k)
+}
+
+// One pass over routes that stand side by side, so many from route `first` on; `at` is its place.
+fn best_in(
+    s: &[u8],
+    at: usize,
+    first: usize,
+    count: usize,
+    before: Best,
+    source: u32,
+    group: u32,
+) -> Best
+    requires { ⌜ Beside (now s) first at count ⌝ }
+    requires { ⌜ before ≡ bestOf (ranksIn (now s) source group) first ⌝ }
+    ensures { λ b. ⌜ b ≡ bestOf (ranksIn (now (s .entry)) source group) (first + count) ⌝ }
+{
+    let mut b = before;
+    let mut j: usize = 0;
+    while j < count {
+        b = best_with(b, s, at + entry::ROUTE_SIZE * j, first + j, source, group);
+        j += 1;
+    }
+    b
+}
+
+// One pass over the routes of a valid sheet, block by block.
 fn best_of(s: &[u8], l: Layout, source: u32, group: u32) -> Best
     requires { ⌜ l ≡ layoutOf (now s) ⌝ }
     ensures { λ b. ⌜ b ≡ bestOf (ranksIn (now (s .entry)) source group) (layoutOf (now (s .entry)) .routes) ⌝ }
@@ -95,8 +128,9 @@ fn best_of(s: &[u8], l: Layout, source: u32, group: u32) -> Best
     let mut b = Best { rank: 0, at: 0 };
     let mut k: usize = 0;
     while k < l.routes {
-        b = better(b, rank(sheet::route(s, l, k), source, group), k);
-        k += 1;
+        let count = sheet::routes_beside(l, k);
+        b = best_in(s, sheet::route_place(l, k), k, count, b, source, group);
+        k += count;
     }
     b
 }
@@ -113,27 +147,33 @@ pub fn choose(s: &[u8], l: Layout, source: u32, group: u32) -> Chosen
     Chosen::Found(sheet::route(s, l, b.at))
 }
 
-// Whether interface `k` is multicast, in the route's would-forward map, and has the client in its subnet.
-fn reaches(r: Route, client: u32, k: usize, i: Interface) -> bool
-    requires { ⌜ (k < mostInterfaces) × (i .length ≤ addressBits) ⌝ }
-    ensures { λ b. ⌜ b ≡ reaches r client k i ⌝ }
+// Whether interface `k` has the lowest bit of what is left of a map, is multicast, and has the client in its subnet.
+fn reaches(s: &[u8], map: u64, k: usize, client: u32) -> bool
+    requires { ⌜ k < layoutOf (now s) .interfaces ⌝ }
+    ensures { λ b. ⌜ b ≡ reachesBy map client (interfaceOf (now (s .entry)) k) ⌝ }
 {
-    entry::is_multicast(i)
-        & entry::in_map(r.forward, k)
-        & entry::same_prefix(i.length, i.address, client)
+    if map % 2 == 0 {
+        return false;
+    }
+    let i = sheet::interface(s, k);
+    entry::is_multicast(i) & entry::same_prefix(i.length, i.address, client)
 }
 
-// Whether some interface of a valid sheet does so.
+// Whether some interface of a valid sheet in the would-forward map does so. None behind the last bit of the map is looked at.
 fn some_reaches(s: &[u8], l: Layout, r: Route, client: u32) -> bool
     requires { ⌜ l ≡ layoutOf (now s) ⌝ }
     ensures { λ b. ⌜ b ≡ someReaches (interfaceOf (now (s .entry))) r client (layoutOf (now (s .entry)) .interfaces) ⌝ }
 {
-    let mut k = l.interfaces;
-    while 0 < k {
-        k -= 1;
-        if reaches(r, client, k, sheet::interface(s, k)) {
+    let mut k: usize = 0;
+    while k < l.interfaces {
+        let map = r.forward >> k;
+        if map == 0 {
+            return false;
+        }
+        if reaches(s, map, k, client) {
             return true;
         }
+        k += 1;
     }
     false
 }

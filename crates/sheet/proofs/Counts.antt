@@ -1,20 +1,18 @@
 -- Blocks of a sheet, one by one: how many entries they hold, and the rules on each.
 use Prim.Native.Nat.{ℕ, _+_, _*_, _-_, _≤_, _<_}
-use mathlib.Core.Bool.{Bool, true, false, not, _&&_, cond}
+use mathlib.Core.Bool.{Bool, true, false, not, _&&_}
 use mathlib.Core.List.{List}
-use mathlib.Core.Path.{_≡_, sym, ap, _∙_}
+use mathlib.Core.Path.{_≡_, sym, _∙_}
 use native.Mathlib.Omega.{arith}
 use native.Mathlib.Nat.{mul-le-mul}
-use native.Mathlib.Numerals.{add-one}
-use lib.Dec.{eqb}
 use lib.Seq.{getD-take, getD-drop}
 use borrow.Author.Tests.{eq-eqb, ne-eqb, not-true, not-false}
 use Rattle.wire.specs.Numbers.{byteAt}
 use Rattle.block.specs.Block.{blockSize, usedIn, switchesOf, entriesEach, frameOk}
 use Rattle.entry.specs.Interface.{interfaceSize}
-use Rattle.sheet.specs.Rules.{interfaceKind, switchesOk, entriesOk, blockOk}
+use Rattle.sheet.specs.Rules.{switchesOk, entriesOk, blockOk}
 use Rattle.block.proofs.Laws.{frame-filled}
-use Rattle.sheet.specs.Sheet.{mostBlocks, sheetBlock, interfaceBlocksIn, entriesIn}
+use Rattle.sheet.specs.Sheet.{mostBlocks, sheetBlock, entriesIn}
 
 -- a byte of block k is a byte of the sheet
 pub byte-in : (s : List ℕ) (k j : ℕ) → j < blockSize → byteAt (sheetBlock s k) j ≡ byteAt s (blockSize * k + j)
@@ -22,15 +20,6 @@ byte-in s k j h = rw (getD-take, getD-drop)
 
 pub byte-told : (s : List ℕ) (k j x : ℕ) → j < blockSize → x ≡ byteAt s (blockSize * k + j) → x ≡ byteAt (sheetBlock s k) j
 byte-told s k j x h e = e ∙ sym (byte-in s k j h)
-
--- one more block counted
-pub counted-more : (s : List ℕ) (m k x one : ℕ) → m ≡ interfaceBlocksIn s k → x ≡ byteAt (sheetBlock s k) 0 → one ≡ cond (eqb x interfaceKind) 1 0
-    → m + one ≡ interfaceBlocksIn s (k + 1)
-unfolding interfaceBlocksIn
-counted-more s m k x one e f g = rw (add-one, ← e, ← f, g)
-
-pub counted-all : (s : List ℕ) (m k n : ℕ) → m ≡ interfaceBlocksIn s k → k ≤ n → n ≤ k → m ≡ interfaceBlocksIn s n
-counted-all s m k n e h l = let q : k ≡ n = omega arith in e ∙ ap (interfaceBlocksIn s) q
 
 -- entries of no block, and of some
 pub entries-none : (s : List ℕ) (each first count : ℕ) → count ≡ 0 → 0 ≡ entriesIn s each first count

@@ -4,6 +4,8 @@ use Rattle.wire.proofs.Laws.{both-are}
 use Rattle.sheet.proofs.layout.check.Reads as check
 use Rattle.sheet.proofs.tables.interface.Reads as interface
 use Rattle.sheet.proofs.tables.route.Reads as route
+use Rattle.sheet.proofs.tables.route_place.Reads as route-place
+use Rattle.sheet.proofs.tables.routes_beside.Reads as routes-beside
 use Rattle.sheet.proofs.tables.prohibited.Reads as prohibited
 use Rattle.sheet.proofs.tables.holder.Reads as holder
 use Rattle.sheet.proofs.rules.wide.Reads as wide
@@ -18,6 +20,12 @@ interface-determined κs a x y e f p q = both-are p q
 
 pub route-determined : (κs : _) (a : _) (x y : _) (e f : _) → route.Post κs a x e → route.Post κs a y f → x ≡ y
 route-determined κs a x y e f p q = both-are p q
+
+pub route-place-determined : (κs : _) (a : _) (x y : _) (e f : _) → route-place.Post κs a x e → route-place.Post κs a y f → x ≡ y
+route-place-determined κs a x y e f p q = both-are p q
+
+pub routes-beside-determined : (κs : _) (a : _) (x y : _) (e f : _) → routes-beside.Post κs a x e → routes-beside.Post κs a y f → x ≡ y
+routes-beside-determined κs a x y e f p q = both-are p q
 
 pub prohibited-determined : (κs : _) (a : _) (x y : _) (e f : _) → prohibited.Post κs a x e → prohibited.Post κs a y f → x ≡ y
 prohibited-determined κs a x y e f p q = both-are p q

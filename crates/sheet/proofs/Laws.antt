@@ -4,5 +4,7 @@
 pub use Rattle.sheet.proofs.Entries.{valid-told, interfaces-few}
 -- an interface, and a route, that is counted: the sheet is valid, and it keeps its rules
 pub use Rattle.sheet.proofs.Entries.{interface-valid, interface-few, interface-keeps, route-keeps}
+-- where a route stands, and those beside it up to the end of its block
+pub use Rattle.sheet.proofs.Reading.{route-placed, routes-beside}
 -- who holds an address: an interface of the sheet, the lowest that does; nobody only where none does
 pub use Rattle.sheet.proofs.Holders.{holder-there, holder-holds, holder-lowest, nobody-holds}

@@ -1,71 +1,73 @@
--- What the check finds, piece by piece: each block by its rules, each way in which a sheet is noLayout, and the layout.
-use Prim.Native.Nat.{ℕ, _+_, _*_, _-_, _≤_, _<_}
+-- What the check finds, test by test: each way in which a sheet is noLayout, and the layout.
+use Prim.Native.Nat.{ℕ, _+_, _-_, _≤_, _<_}
 use mathlib.Core.Bool.{Bool, true, false, not}
 use mathlib.Core.List.{List}
-use mathlib.Core.Path.{_≡_, sym, ap, _∙_}
-use native.Mathlib.Nat.{add-sub-cancel-left}
-use lib.Dec.{eqb}
-use lib.ListN.{length, take, drop}
-use borrow.Author.Tests.{lt-ltb, le-ltb, lt-leb, le-leb, not-true, not-false}
-use Rattle.block.specs.Block.{blockSize}
+use mathlib.Core.Path.{_≡_, refl, sym, _∙_}
+use native.Mathlib.Omega.{arith}
+use lib.ListN.{length}
+use borrow.Author.Tests.{le-leb, not-true, not-false}
+use Rattle.wire.proofs.Laws.{wholes}
+use Rattle.block.specs.Block.{blockSize, entriesEach}
 use Rattle.entry.specs.Interface.{interfaceSize, mostInterfaces}
 use Rattle.entry.specs.Route.{routeSize}
-use Rattle.wire.proofs.Laws.{wholes}
 use Rattle.sheet.specs.Every.{every}
-use Rattle.sheet.specs.Rules.{interfaceKind, routeKind, interfaceRight, routeRight, blockOk}
-use Rattle.sheet.specs.Sheet.{mostBlocks, sheetSizeOk, blocks, interfaceBlocks, interfacesIn, blockOkAt, validSheet, noLayout, counted, layoutOf}
+use Rattle.sheet.specs.Sheet.{mostBlocks, sheetSizeOk, blocks, interfaceBlocks, entriesIn, interfacesIn, routesIn, blockOkAt, validSheet, noLayout, counted, layoutOf}
+use Rattle.sheet.specs.Inside.{Leading, blockOkWith}
 use Rattle.sheet.specs.declared.layout.Layout.{Layout}
+use Rattle.sheet.proofs.Valid.{Valid, valid}
+use Rattle.sheet.proofs.Entries.{layout-cases, layout-valid}
+use Rattle.sheet.proofs.Leading.{leading-all, leading-valid}
 
--- a block by its number
-pub interface-block : (s : List ℕ) (k m : ℕ) (x : Bool) → m ≡ interfaceBlocks s → k < m
-    → x ≡ blockOk interfaceKind interfaceSize interfaceRight k (eqb (k + 1) m) (take (blockSize * k + blockSize - blockSize * k) (drop (blockSize * k) s))
-    → x ≡ blockOkAt s k
-unfolding blockOkAt
-interface-block s k m x e h f = rw (← e, lt-ltb k m h) (rw add-sub-cancel-left at f)
+-- the rules on a block, with the sheet's own interface blocks and interfaces
+same-rules : (s : List ℕ) → blockOkAt s ≡ blockOkWith s (interfaceBlocks s) (interfacesIn s)
+unfolding blockOkAt blockOkWith
+same-rules s = refl
 
-pub route-block : (s : List ℕ) (k m interfaces : ℕ) (x : Bool) → m ≡ interfaceBlocks s → interfaces ≡ interfacesIn s → m ≤ k
-    → x ≡ blockOk routeKind routeSize (routeRight interfaces) k (eqb (k + 1) (blocks s)) (take (blockSize * k + blockSize - blockSize * k) (drop (blockSize * k) s))
-    → x ≡ blockOkAt s k
-unfolding blockOkAt
-route-block s k m interfaces x e g h f = rw (← e, ← g, le-ltb k m h) (rw add-sub-cancel-left at f)
+-- a sheet that cannot be valid
+refused : (s : List ℕ) (r : Layout) → (Valid s → ⊥) → r ≡ noLayout → r ≡ layoutOf s
+refused s r no′ f = layout-cases (λ (l : Layout). r ≡ l) s (λ e. absurd (no′ (valid s e))) (λ e. f)
 
 -- what the code has found out, test by test
-module _ (s : List ℕ) (size : Bool) (es : size ≡ sheetSizeOk (length s)) (r : Layout) where
-  pub bad-size : not size ≡ true → r ≡ noLayout → r ≡ layoutOf s
+module _ (s : List ℕ) (size : Bool) (es : size ≡ sheetSizeOk (length s)) where
+  pub bad-size : (r : Layout) → not size ≡ true → r ≡ noLayout → r ≡ layoutOf s
   unfolding layoutOf validSheet
-  bad-size h f = f ∙ rw (← es, not-true size h)
+  bad-size r h f = f ∙ rw (← es, not-true size h)
 
   module _ (h : not size ≡ false) where
     pub few-blocks : blocks s ≤ mostBlocks
     few-blocks = wholes blockSize mostBlocks (length s) (sym es ∙ not-false size h) .few
 
-    module _ (l : Layout) (el : l ≡ counted s) where
-      pub m-told : l .blocks ≡ interfaceBlocks s
-      unfolding counted
-      m-told = ap (λ (k : Layout). k .blocks) el
+    module _ (m : ℕ) (lead : Leading s (blocks s) m) where
+      pub few-first : 0 + m ≤ mostBlocks
+      few-first = omega (arith, lead .within, few-blocks)
 
-      pub i-told : l .interfaces ≡ interfacesIn s
-      unfolding counted
-      i-told = ap (λ (k : Layout). k .interfaces) el
+      pub few-rest : m + (blocks s - m) ≤ mostBlocks
+      few-rest = omega (arith, lead .within, few-blocks)
 
-      pub no-interface-block : l .blocks < 1 → r ≡ noLayout → r ≡ layoutOf s
-      unfolding layoutOf validSheet
-      no-interface-block k f = f ∙ rw (← es, not-false size h, ← m-told, lt-leb 1 (l .blocks) k)
+      pub no-interface-block : (r : Layout) → m ≡ 0 → r ≡ noLayout → r ≡ layoutOf s
+      no-interface-block r z = refused s r (λ v. omega (arith, v .some, leading-valid s m lead v))
 
-      module _ (some : 1 ≤ l .blocks) where
-        pub many-interfaces : mostInterfaces < l .interfaces → r ≡ noLayout → r ≡ layoutOf s
-        unfolding layoutOf validSheet
-        many-interfaces k f = f ∙ rw (← es, not-false size h, ← m-told, le-leb 1 (l .blocks) some, ← i-told, lt-leb (l .interfaces) mostInterfaces k)
+      module _ (some : m ≡ 0 → ⊥) (interfaces : ℕ) (ei : interfaces ≡ entriesIn s (entriesEach interfaceSize) 0 m) where
+        interfaces-told : m ≡ interfaceBlocks s → interfaces ≡ interfacesIn s
+        unfolding interfacesIn
+        interfaces-told e = ei ∙ rw e
 
-        module _ (few : l .interfaces ≤ mostInterfaces) (ok : Bool) (eo : ok ≡ every (blockOkAt s) (blocks s)) where
-          valid-as : validSheet s ≡ ok
-          unfolding validSheet
-          valid-as = rw (← es, not-false size h, ← m-told, le-leb 1 (l .blocks) some, ← i-told, le-leb (l .interfaces) mostInterfaces few) (sym eo)
+        pub many-interfaces : (r : Layout) → mostInterfaces < interfaces → r ≡ noLayout → r ≡ layoutOf s
+        many-interfaces r k = refused s r (λ v. omega (arith, v .few, interfaces-told (leading-valid s m lead v)))
 
-          pub bad-block : not ok ≡ true → r ≡ noLayout → r ≡ layoutOf s
-          unfolding layoutOf
-          bad-block k f = f ∙ rw (valid-as, not-true ok k)
+        module _ (few : interfaces ≤ mostInterfaces) (ok : Bool) (eo : ok ≡ every (blockOkWith s m interfaces) (blocks s)) where
+          told : m ≡ interfaceBlocks s → ok ≡ every (blockOkAt s) (blocks s)
+          told e = eo ∙ rw (same-rules s, ← e, ← interfaces-told e)
 
-          pub laid-out : not ok ≡ false → l ≡ layoutOf s
-          unfolding layoutOf
-          laid-out k = el ∙ rw (valid-as, not-false ok k)
+          pub bad-block : (r : Layout) → not ok ≡ true → r ≡ noLayout → r ≡ layoutOf s
+          bad-block r k = refused s r (λ v. let z : _≡_ {A = ℕ} 0 1 = cc (told (leading-valid s m lead v), v .all, not-true ok k) in omega arith)
+
+          pub laid-out : (routes : ℕ) → routes ≡ entriesIn s (entriesEach routeSize) m (blocks s - m) → not ok ≡ false
+              → record { valid = true; blocks = m; interfaces = interfaces; routes = routes } ≡ layoutOf s
+          unfolding validSheet counted routesIn
+          laid-out routes er k =
+              let e : m ≡ interfaceBlocks s = leading-all s m lead interfaces (sym eo ∙ not-false ok k) in
+              let one : 1 ≤ interfaceBlocks s = omega arith in
+              let f : interfacesIn s ≤ mostInterfaces = omega (arith, interfaces-told e) in
+              let v : validSheet s ≡ true = rw (← es, not-false size h, le-leb 1 (interfaceBlocks s) one, le-leb (interfacesIn s) mostInterfaces f) (sym (told e) ∙ not-false ok k) in
+              rw (layout-valid s v, er, interfaces-told e, e)

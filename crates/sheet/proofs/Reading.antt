@@ -1,8 +1,8 @@
 -- The tables as the code reads them: at the layout's places, and from interface to interface for who holds an address.
-use Prim.Native.Nat.{ℕ, suc, _+_, _-_, _≤_, _<_}
+use Prim.Native.Nat.{ℕ, suc, _+_, _*_, _-_, _%_, _≤_, _<_, min}
 use mathlib.Core.Bool.{true, cond}
 use mathlib.Core.List.{List}
-use mathlib.Core.Path.{_≡_, sym, ap, _∙_}
+use mathlib.Core.Path.{_≡_, refl, sym, ap, _∙_}
 use native.Mathlib.Omega.{arith}
 use native.Mathlib.Nat.{sub-zero}
 use lib.Dec.{eqb}
@@ -10,14 +10,15 @@ use lib.ListN.{length}
 use borrow.Author.Tests.{eq-eqb, ne-eqb}
 use Rattle.wire.specs.Numbers.{be16, be32}
 use Rattle.wire.proofs.Laws.{be-part}
-use Rattle.block.specs.Block.{blockSize, switchesAt}
+use Rattle.block.specs.Block.{blockSize, switchesAt, entriesEach}
 use Rattle.entry.specs.Interface.{interfaceSize, mostInterfaces, interfaceAt}
 use Rattle.entry.specs.Route.{routeSize, routeAt}
 use Rattle.entry.specs.declared.route.Route.{Route}
 use Rattle.sheet.specs.Every.{listed}
 use Rattle.sheet.specs.Rules.{prohibits}
-use Rattle.sheet.specs.Sheet.{interfaceBlocks, counted, layoutOf}
+use Rattle.sheet.specs.Sheet.{mostBlocks, interfaceBlocks, counted, layoutOf}
 use Rattle.sheet.specs.Tables.{placeOf, interfaceOf, routeOf, interfacesOf, prohibitedOf, holderFrom, holderOf}
+use Rattle.sheet.specs.Inside.{Beside}
 use Rattle.sheet.specs.declared.layout.Layout.{Layout}
 use Rattle.sheet.specs.declared.tables.Holding.{Holding}
 use Rattle.sheet.specs.declared.tables.Holding.the-variants.{At, Nowhere}
@@ -37,12 +38,49 @@ module _ (s : List ℕ) (l : Layout) (k : ℕ) (el : l ≡ layoutOf s) (there : 
   unfolding counted
   blocks-told = ap (λ (n : Layout). n .blocks) (el ∙ layout-valid s (route-valid s k routes-there))
 
-  pub route-within : placeOf routeSize (l .blocks) k + routeSize ≤ length s
-  route-within = rw blocks-told (route-bytes s k routes-there)
+  pub route-placed : placeOf routeSize (l .blocks) k + routeSize ≤ blockSize * mostBlocks
+  route-placed =
+      let v = valid s (route-valid s k routes-there) in
+      rw blocks-told (omega (arith, route-bytes s k routes-there, v .size .whole, v .size .few))
 
-  pub route-read : (r : Route) → r ≡ routeAt s (placeOf routeSize (l .blocks) k) → r ≡ routeOf s k
+  pub route-within : (at : ℕ) → at ≡ placeOf routeSize (l .blocks) k → at + routeSize ≤ length s
+  route-within at e = rw (e, blocks-told) (route-bytes s k routes-there)
+
+  pub route-read : (at : ℕ) (r : Route) → at ≡ placeOf routeSize (l .blocks) k → r ≡ routeAt s at → r ≡ routeOf s k
   unfolding routeOf
-  route-read r e = rw (← blocks-told) e
+  route-read at r e f = f ∙ rw (e, blocks-told)
+
+-- a route begins past its number
+place-past : (first k : ℕ) → k < placeOf routeSize first k
+place-past first k = omega arith
+
+-- the routes beside a route, up to the end of its block
+module _ (s : List ℕ) (l : Layout) (k : ℕ) (el : l ≡ layoutOf s) (there : k < l .routes) (at count : ℕ)
+    (placed : at ≡ placeOf routeSize (l .blocks) k)
+    (beside : count ≡ min (l .routes - k) (entriesEach routeSize - k % entriesEach routeSize)) where
+  beside-some : 0 < count
+  beside-some = omega arith
+
+  in-row : (j : ℕ) → j < count → at + routeSize * j ≡ placeOf routeSize (l .blocks) (k + j)
+  in-row j h = omega arith
+
+  last-low : k + (count - 1) < at + routeSize * (count - 1)
+  last-low = rw (in-row (count - 1) (omega (arith, beside-some))) (place-past (l .blocks) (k + (count - 1)))
+
+  last-within : at + routeSize * (count - 1) + routeSize ≤ length s
+  last-within =
+      let j : ℕ = count - 1 in
+      let h : j < count = omega (arith, beside-some) in
+      route-within s l (k + j) el (omega arith) (at + routeSize * j) (in-row j h)
+
+  pub routes-beside : Beside s k at count
+  routes-beside =
+      record {
+        there = rw (← el) (omega arith);
+        few = omega (arith, last-low, last-within);
+        bytes = omega (arith, last-within, beside-some);
+        each = λ j h. sym (route-read s l (k + j) el (omega arith) (at + routeSize * j) (routeAt s (at + routeSize * j)) (in-row j h) refl);
+      }
 
 -- the switches
 pub valid-long : (s : List ℕ) → layoutOf s .valid ≡ true → blockSize ≤ length s

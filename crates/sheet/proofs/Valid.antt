@@ -27,8 +27,10 @@ blocks-within s (suc n) =
 
 pub record Valid (s : List ℕ) : Type 0 where
   pub size : Wholes blockSize mostBlocks (length s)
+  pub some : 1 ≤ interfaceBlocks s
   pub within : interfaceBlocks s ≤ blocks s
   pub few : interfacesIn s ≤ mostInterfaces
+  pub all : every (blockOkAt s) (blocks s) ≡ true
   pub each : (k : ℕ) → k < blocks s → blockOkAt s k ≡ true
 
 pub valid : (s : List ℕ) → validSheet s ≡ true → Valid s
@@ -42,8 +44,10 @@ valid s e =
     let r = both-of z m (q .0) in
     record {
       size = wholes blockSize mostBlocks (length s) (r .0);
+      some = leb-true 1 (interfaceBlocks s) (r .1);
       within = blocks-within s (blocks s);
       few = leb-true (interfacesIn s) mostInterfaces (q .1);
+      all = p .1;
       each = λ k h. every-one (blockOkAt s) (blocks s) k (p .1) h;
     }
 

@@ -3,3 +3,4 @@ pub mod Every
 pub mod Rules
 pub mod Sheet
 pub mod Tables
+pub mod Inside

@@ -3,7 +3,6 @@ use crate::rules::INTERFACE_KIND;
 use crate::rules::interface_block_ok;
 use crate::rules::route_block_ok;
 use crate::rules::wide;
-ghost use mathlib.Core.Bool.{cond, true};
 ghost use mathlib.Core.Path.{_≡_};
 ghost use Prim.Native.Nat.{_+_, _*_, _/_, _≤_, _<_};
 ghost use lib.ListN.{length};
@@ -11,7 +10,8 @@ ghost use Rattle.wire.specs.Numbers.{byteAt};
 ghost use Rattle.block.specs.Block.{blockSize, entriesEach};
 ghost use Rattle.entry.specs.Interface.{interfaceSize, mostInterfaces};
 ghost use Rattle.sheet.specs.Every.{every};
-ghost use Rattle.sheet.specs.Sheet.{mostBlocks, sheetSizeOk, blocks, sheetBlock, interfaceBlocksIn, interfaceBlocks, entriesIn, interfacesIn, blockOkAt, noLayout, counted, layoutOf};
+ghost use Rattle.sheet.specs.Sheet.{mostBlocks, sheetSizeOk, blocks, sheetBlock, entriesIn, noLayout, layoutOf};
+ghost use Rattle.sheet.specs.Inside.{Leading, blockOkWith};
 
 // The most blocks of a sheet.
 const MOST_BLOCKS: usize = 16;
@@ -39,15 +39,6 @@ fn size_ok(size: usize) -> bool
         & (size / block::BLOCK_SIZE <= MOST_BLOCKS)
 }
 
-fn one_if(b: bool) -> usize
-    ensures { λ r. ⌜ (r ≡ cond b 1 0) × (r ≤ 1) ⌝ }
-{
-    if b {
-        return 1;
-    }
-    0
-}
-
 // Byte `j` of block `k`.
 fn byte_of(s: &[u8], k: usize, j: usize) -> usize
     requires { ⌜ (blockSize * k + blockSize ≤ length (now s)) × (j < blockSize) ⌝ }
@@ -56,18 +47,20 @@ fn byte_of(s: &[u8], k: usize, j: usize) -> usize
     wide(s[block::BLOCK_SIZE * k + j])
 }
 
-// How many of the first `n` blocks are interface blocks.
+// How many interface blocks stand before the first block of another kind, among the first `n`. In a sheet that keeps the rules
+// there are no others; where there are, one of them breaks the rules on route blocks.
 fn interface_blocks(s: &[u8], n: usize) -> usize
-    requires { ⌜ (blockSize * n ≤ length (now s)) × (n ≤ mostBlocks) ⌝ }
-    ensures { λ r. ⌜ (r ≡ interfaceBlocksIn (now (s .entry)) n) × (r ≤ n) ⌝ }
+    requires { ⌜ blockSize * n ≤ length (now s) ⌝ }
+    ensures { λ r. ⌜ Leading (now (s .entry)) n r ⌝ }
 {
-    let mut m: usize = 0;
     let mut k: usize = 0;
     while k < n {
-        m += one_if(byte_of(s, k, 0) == INTERFACE_KIND as usize);
+        if byte_of(s, k, 0) != INTERFACE_KIND as usize {
+            return k;
+        }
         k += 1;
     }
-    m
+    k
 }
 
 // The entries in `count` blocks from block `first` on, of which all but the last are full with `each`.
@@ -81,26 +74,10 @@ fn entries(s: &[u8], each: usize, first: usize, count: usize) -> usize
     each * (count - 1) + byte_of(s, first + (count - 1), 1)
 }
 
-// How many interface blocks, interfaces and routes there are in a sheet that keeps the rules.
-fn counts(s: &[u8]) -> Layout
-    requires { ⌜ blocks (now s) ≤ mostBlocks ⌝ }
-    ensures { λ l. ⌜ l ≡ counted (now (s .entry)) ⌝ }
-{
-    let n = s.len() / block::BLOCK_SIZE;
-    let m = interface_blocks(s, n);
-    Layout {
-        valid: true,
-        blocks: m,
-        interfaces: entries(s, INTERFACES_EACH, 0, m),
-        routes: entries(s, ROUTES_EACH, m, n - m),
-    }
-}
-
 // Whether block `k` keeps its rules, where there are `m` interface blocks and so many interfaces.
 fn block_ok(s: &[u8], k: usize, m: usize, interfaces: u16) -> bool
     requires { ⌜ (blockSize * k + blockSize ≤ length (now s)) × (k < mostBlocks) × (interfaces ≤ mostInterfaces) ⌝ }
-    requires { ⌜ (m ≡ interfaceBlocks (now s)) × (interfaces ≡ interfacesIn (now s)) ⌝ }
-    ensures { λ r. ⌜ r ≡ blockOkAt (now (s .entry)) k ⌝ }
+    ensures { λ r. ⌜ r ≡ blockOkWith (now (s .entry)) m interfaces k ⌝ }
 {
     let a = block::BLOCK_SIZE * k;
     let e = a + block::BLOCK_SIZE;
@@ -116,20 +93,20 @@ fn block_ok(s: &[u8], k: usize, m: usize, interfaces: u16) -> bool
     )
 }
 
-// Whether every block keeps its rules.
+// Whether every block keeps its rules. The first that does not settles it.
 fn blocks_ok(s: &[u8], m: usize, interfaces: u16) -> bool
     requires { ⌜ (blocks (now s) ≤ mostBlocks) × (interfaces ≤ mostInterfaces) ⌝ }
-    requires { ⌜ (m ≡ interfaceBlocks (now s)) × (interfaces ≡ interfacesIn (now s)) ⌝ }
-    ensures { λ r. ⌜ r ≡ every (blockOkAt (now (s .entry))) (blocks (now (s .entry))) ⌝ }
+    ensures { λ r. ⌜ r ≡ every (blockOkWith (now (s .entry)) m interfaces) (blocks (now (s .entry))) ⌝ }
 {
     let n = s.len() / block::BLOCK_SIZE;
-    let mut ok = true;
     let mut k: usize = 0;
     while k < n {
-        ok = ok & block_ok(s, k, m, interfaces);
+        if !block_ok(s, k, m, interfaces) {
+            return false;
+        }
         k += 1;
     }
-    ok
+    true
 }
 
 // What is told of a sheet that breaks a rule.
@@ -144,22 +121,29 @@ fn refuse() -> Layout
     }
 }
 
-// Whether any bytes at all are a valid sheet, and what it holds.
+// Whether any bytes at all are a valid sheet, and what it holds. What is cheap to refuse comes first.
 pub fn check(s: &[u8]) -> Layout
     ensures { λ l. ⌜ l ≡ layoutOf (now (s .entry)) ⌝ }
 {
     if !size_ok(s.len()) {
         return refuse();
     }
-    let l = counts(s);
-    if l.blocks < 1 {
+    let n = s.len() / block::BLOCK_SIZE;
+    let m = interface_blocks(s, n);
+    if m == 0 {
         return refuse();
     }
-    if entry::MOST_INTERFACES < l.interfaces {
+    let interfaces = entries(s, INTERFACES_EACH, 0, m);
+    if entry::MOST_INTERFACES < interfaces {
         return refuse();
     }
-    if !blocks_ok(s, l.blocks, l.interfaces as u16) {
+    if !blocks_ok(s, m, interfaces as u16) {
         return refuse();
     }
-    l
+    Layout {
+        valid: true,
+        blocks: m,
+        interfaces,
+        routes: entries(s, ROUTES_EACH, m, n - m),
+    }
 }

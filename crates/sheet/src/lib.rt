@@ -10,3 +10,5 @@ pub use tables::holder;
 pub use tables::interface;
 pub use tables::prohibited;
 pub use tables::route;
+pub use tables::route_place;
+pub use tables::routes_beside;

@@ -5,11 +5,11 @@ use crate::layout::ROUTES_EACH;
 use crate::rules::PROHIBITS;
 ghost use mathlib.Core.Bool.{true};
 ghost use mathlib.Core.Path.{_≡_};
-ghost use Prim.Native.Nat.{_+_, _≤_, _<_};
-ghost use lib.ListN.{length};
+ghost use Prim.Native.Nat.{_+_, _*_, _-_, _%_, _≤_, _<_, min};
+ghost use Rattle.block.specs.Block.{blockSize, entriesEach};
 ghost use Rattle.entry.specs.Interface.{interfaceSize, mostInterfaces};
-ghost use Rattle.entry.specs.Route.{routeSize, routeAt};
-ghost use Rattle.sheet.specs.Sheet.{layoutOf};
+ghost use Rattle.entry.specs.Route.{routeSize};
+ghost use Rattle.sheet.specs.Sheet.{mostBlocks, layoutOf};
 ghost use Rattle.sheet.specs.Tables.{placeOf, interfaceOf, routeOf, prohibitedOf, holderOf};
 
 // The number of the interface that holds an address, or none.
@@ -35,14 +35,27 @@ pub fn interface(s: &[u8], i: usize) -> entry::Interface
     entry::interface_at(s, interface_place(i))
 }
 
-// The route at entry `k` of the blocks from block `first` on.
-fn route_from(s: &[u8], first: usize, k: usize) -> entry::Route
-    requires { ⌜ placeOf routeSize first k + routeSize ≤ length (now s) ⌝ }
-    ensures { λ r. ⌜ r ≡ routeAt (now (s .entry)) (placeOf routeSize first k) ⌝ }
+// Where route `k` begins.
+pub fn route_place(l: Layout, k: usize) -> usize
+    requires { ⌜ placeOf routeSize (l .blocks) k + routeSize ≤ blockSize * mostBlocks ⌝ }
+    ensures { λ r. ⌜ r ≡ placeOf routeSize (l .blocks) k ⌝ }
 {
-    let at = block::BLOCK_SIZE * (first + k / ROUTES_EACH)
-        + (block::ENTRIES_AT + entry::ROUTE_SIZE * (k % ROUTES_EACH));
-    entry::route_at(s, at)
+    block::BLOCK_SIZE * (l.blocks + k / ROUTES_EACH)
+        + (block::ENTRIES_AT + entry::ROUTE_SIZE * (k % ROUTES_EACH))
+}
+
+// How many routes stand side by side from route `k` on: to the end of its block, or of the routes. A search goes through them by
+// their size, and looks for a place again only with the next block.
+pub fn routes_beside(l: Layout, k: usize) -> usize
+    requires { ⌜ k < l .routes ⌝ }
+    ensures { λ r. ⌜ r ≡ min (l .routes - k) (entriesEach routeSize - k % entriesEach routeSize) ⌝ }
+{
+    let left = l.routes - k;
+    let room = ROUTES_EACH - k % ROUTES_EACH;
+    if left < room {
+        return left;
+    }
+    room
 }
 
 // Route `k`.
@@ -50,7 +63,7 @@ pub fn route(s: &[u8], l: Layout, k: usize) -> entry::Route
     requires { ⌜ (l ≡ layoutOf (now s)) × (k < l .routes) ⌝ }
     ensures { λ r. ⌜ r ≡ routeOf (now (s .entry)) k ⌝ }
 {
-    route_from(s, l.blocks, k)
+    entry::route_at(s, route_place(l, k))
 }
 
 // Whether tracing is prohibited.

@@ -1,5 +1,5 @@
 -- `judge`: all rows from 3 on, one group behind the other.
-use Rattle.drops.proofs.Rows.{judged-sheet, judged-message, judged-routed, judged-fits}
+use Rattle.drops.proofs.Rows.{judged-sheet, judged-message, judged-routed}
 use borrow.Author.Needs.{needs}
 use Rattle.drops.proofs.judge.Statement.{statement}
 use Rattle.drops.proofs.judge.Tie as tie

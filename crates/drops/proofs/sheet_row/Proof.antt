@@ -2,7 +2,6 @@
 use Rattle.rows.specs.Rows.{byFirst}
 use Rattle.rows.proofs.Laws.{first}
 use Rattle.drops.specs.Drop.{lendingRows}
-use borrow.Author.Needs.{needs}
 use Rattle.drops.proofs.sheet_row.Statement.{statement}
 use Rattle.drops.proofs.sheet_row.Tie as tie
 

@@ -1,10 +1,10 @@
--- `best_of`: after k turns the best is that of the first k routes.
+-- `best_of`: with each block the best is that of the first k routes.
 use Prim.Native.Nat.{_≤_, _-_}
 use mathlib.Core.Path.{_≡_, refl}
-use borrow.Author.Needs.{needs}
 use native.Mathlib.Omega.{arith}
-use Rattle.route.proofs.Turns.{route-short, best-more, best-all}
+use Rattle.sheet.proofs.Laws.{route-placed, routes-beside}
 use Rattle.route.specs.Inside.{ranksIn, bestOf}
+use Rattle.route.proofs.Turns.{best-all}
 use Rattle.route.proofs.best_of.Statement.{statement}
 use Rattle.route.proofs.best_of.Tie as tie
 
@@ -18,14 +18,14 @@ loop-holds : tie.Need-loop-holds Inv-loop μ-loop
 unfolding bestOf
 loop-holds c = (omega arith, refl)
 
-route-requires : tie.Need-route-requires Inv-loop μ-loop
-route-requires c κs = (search, omega arith)
+route-place-requires : tie.Need-route-place-requires Inv-loop μ-loop
+route-place-requires c κs = search route-placed
 
-rank-requires : tie.Need-rank-requires Inv-loop μ-loop
-rank-requires c κs = search route-short
+best-in-requires : tie.Need-best-in-requires Inv-loop μ-loop
+best-in-requires c κs = (search routes-beside, search)
 
 loop-again : tie.Need-loop-again Inv-loop μ-loop
-loop-again c = (omega arith, search best-more)
+loop-again c = (omega arith, search)
 
 returns : tie.Need-returns Inv-loop μ-loop
 returns c = search best-all
@@ -37,9 +37,9 @@ best-of-spec =
     Inv-loop
     μ-loop
     loop-holds
-    route-requires
-    rank-requires
-    (λ c κs. search needs)
+    (λ c κs. omega arith)
+    route-place-requires
+    best-in-requires
     (λ c. omega arith)
     (λ c. omega arith)
     loop-again

@@ -1,5 +1,5 @@
 -- `last_hop`: by the route chosen, as the definition goes.
-use Rattle.route.proofs.Turns.{hop-rp, hop-reached, hop-none}
+use Rattle.route.proofs.Reached.{hop-rp, hop-reached, hop-none}
 use borrow.Author.Needs.{needs}
 use Rattle.route.proofs.last_hop.Statement.{statement}
 use Rattle.route.proofs.last_hop.Tie as tie

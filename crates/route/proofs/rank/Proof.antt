@@ -1,37 +1,21 @@
 -- `rank`: each way out is the first test that holds.
 use Rattle.rows.proofs.Laws.{first}
-use Rattle.route.specs.Inside.{rankBy}
+use Rattle.route.specs.Inside.{rankAs}
 use borrow.Author.Needs.{needs}
 use Rattle.route.proofs.rank.Statement.{statement}
 use Rattle.route.proofs.rank.Tie as tie
 
 returns : tie.Need-returns
-unfolding rankBy
+unfolding rankAs
 returns c = search first depth 30 fits 4000
 
 returns-2 : tie.Need-returns-2
-unfolding rankBy
+unfolding rankAs
 returns-2 c = search first depth 30 fits 4000
 
 returns-3 : tie.Need-returns-3
-unfolding rankBy
+unfolding rankAs
 returns-3 c = search first depth 30 fits 4000
 
-returns-4 : tie.Need-returns-4
-unfolding rankBy
-returns-4 c = search first depth 30 fits 4000
-
 pub rank-spec : {M : Type 1} → statement M
-rank-spec =
-    tie.close
-    (tie.spec
-    (λ c κs. search needs)
-    (λ c. search needs)
-    returns
-    (λ c κs. search needs)
-    (λ c. search needs)
-    returns-2
-    (λ c κs. search needs)
-    (λ c. search needs)
-    returns-3
-    returns-4)
+rank-spec = tie.close (tie.spec (λ c. search needs) returns (λ c. search needs) returns-2 (λ c. search needs) returns-3)

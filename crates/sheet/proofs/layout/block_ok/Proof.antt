@@ -1,5 +1,5 @@
 -- `block_ok`: interface blocks come first, then route blocks.
-use Rattle.sheet.proofs.Layouts.{interface-block, route-block}
+use Rattle.sheet.proofs.Leading.{interface-block, route-block}
 use borrow.Author.Needs.{needs}
 use Rattle.sheet.proofs.layout.block_ok.Statement.{statement}
 use Rattle.sheet.proofs.layout.block_ok.Tie as tie

@@ -1,28 +1,27 @@
--- `interface_blocks`: after k turns the interface blocks among the first k are counted.
+-- `interface_blocks`: the k blocks that were passed are interface blocks.
 use Prim.Native.Nat.{_-_, _≤_}
-use mathlib.Core.Path.{_≡_, refl}
 use native.Mathlib.Omega.{arith}
-use borrow.Author.Needs.{needs}
-use Rattle.sheet.specs.Sheet.{interfaceBlocksIn}
-use Rattle.sheet.proofs.Counts.{counted-more, counted-all}
+use Rattle.sheet.proofs.Leading.{FirstOnes, one-more, other-next, none-next}
 use Rattle.sheet.proofs.layout.interface_blocks.Statement.{statement}
 use Rattle.sheet.proofs.layout.interface_blocks.Tie as tie
 
 abbrev Inv-loop : tie.InvT-loop
-Inv-loop s n m₀ k₀ m k = (k ≤ n) × (m ≤ k) × (m ≡ interfaceBlocksIn s k)
+Inv-loop s n k₀ k = (k ≤ n) × FirstOnes s k
 
 abbrev μ-loop : tie.MeasureT-loop
-μ-loop s n m₀ k₀ m k = n - k
+μ-loop s n k₀ k = n - k
 
 loop-holds : tie.Need-loop-holds Inv-loop μ-loop
-unfolding interfaceBlocksIn
-loop-holds c = (omega arith, omega arith, refl)
-
-loop-again : tie.Need-loop-again Inv-loop μ-loop
-loop-again c = (omega arith, omega arith, search counted-more)
+loop-holds c = (omega arith, λ j h. absurd (omega arith))
 
 returns : tie.Need-returns Inv-loop μ-loop
-returns c = (search counted-all, omega arith)
+returns c = search other-next
+
+loop-again : tie.Need-loop-again Inv-loop μ-loop
+loop-again c = (omega arith, search one-more)
+
+returns-2 : tie.Need-returns-2 Inv-loop μ-loop
+returns-2 c = search none-next
 
 pub interface-blocks-spec : {M : Type 1} → statement M
 interface-blocks-spec =
@@ -33,9 +32,8 @@ interface-blocks-spec =
     loop-holds
     (λ c κs. omega arith)
     (λ c. omega arith)
-    (λ c κs. search needs)
-    (λ c. omega arith)
+    returns
     (λ c. omega arith)
     (λ c. omega arith)
     loop-again
-    returns)
+    returns-2)

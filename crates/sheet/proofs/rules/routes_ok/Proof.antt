@@ -7,12 +7,12 @@ use borrow.Author.Needs.{needs}
 use Rattle.sheet.specs.Every.{every}
 use Rattle.sheet.specs.Rules.{routeRight, entriesOk}
 use Rattle.entry.specs.Route.{routeSize}
-use Rattle.sheet.proofs.Numbered.{every-stops, every-goes-on, every-done}
+use Rattle.sheet.proofs.Numbered.{every-next, every-stops, every-all}
 use Rattle.sheet.proofs.rules.routes_ok.Statement.{statement}
 use Rattle.sheet.proofs.rules.routes_ok.Tie as tie
 
 abbrev Inv-loop : tie.InvT-loop
-Inv-loop b used interfaces whole j₀ j = (j ≤ used) × (entriesOk routeSize (routeRight interfaces) b j ≡ true)
+Inv-loop b used interfaces whole j₀ j = (j ≤ used) × (true ≡ entriesOk routeSize (routeRight interfaces) b j)
 
 abbrev μ-loop : tie.MeasureT-loop
 μ-loop b used interfaces whole j₀ j = used - j
@@ -25,10 +25,10 @@ returns : tie.Need-returns Inv-loop μ-loop
 returns c = search every-stops
 
 loop-again : tie.Need-loop-again Inv-loop μ-loop
-loop-again c = (omega arith, search every-goes-on)
+loop-again c = (omega arith, search every-next)
 
 returns-2 : tie.Need-returns-2 Inv-loop μ-loop
-returns-2 c = search every-done
+returns-2 c = search every-all
 
 pub routes-ok-spec : {M : Type 1} → statement M
 routes-ok-spec =

@@ -1,0 +1,42 @@
+-- `best_in`: after j turns the best is that of the first routes and j more.
+use Prim.Native.Nat.{_+_, _-_, _≤_}
+use mathlib.Core.Path.{_≡_}
+use native.Mathlib.Omega.{arith}
+use Rattle.route.specs.Inside.{ranksIn, bestOf}
+use Rattle.route.proofs.Turns.{beside-kept, best-start, best-more, best-end}
+use Rattle.route.proofs.best_in.Statement.{statement}
+use Rattle.route.proofs.best_in.Tie as tie
+
+abbrev Inv-loop : tie.InvT-loop
+Inv-loop s at first count source group b₀ j₀ b j = (j ≤ count) × (b ≡ bestOf (ranksIn s source group) (first + j))
+
+abbrev μ-loop : tie.MeasureT-loop
+μ-loop s at first count source group b₀ j₀ b j = count - j
+
+loop-holds : tie.Need-loop-holds Inv-loop μ-loop
+loop-holds c = (omega arith, search best-start)
+
+best-with-requires : tie.Need-best-with-requires Inv-loop μ-loop
+best-with-requires c κs = (omega arith, search beside-kept)
+
+loop-again : tie.Need-loop-again Inv-loop μ-loop
+loop-again c = (omega arith, search best-more)
+
+returns : tie.Need-returns Inv-loop μ-loop
+returns c = search best-end
+
+pub best-in-spec : {M : Type 1} → statement M
+best-in-spec =
+    tie.close
+    (tie.spec
+    Inv-loop
+    μ-loop
+    loop-holds
+    (λ c. omega arith)
+    (λ c. omega arith)
+    (λ c. omega arith)
+    best-with-requires
+    (λ c. omega arith)
+    (λ c. omega arith)
+    loop-again
+    returns)
