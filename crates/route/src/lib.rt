@@ -15,13 +15,13 @@ ghost use Rattle.route.specs.LastHop.{someReaches, properLastHop};
 ghost use Rattle.route.specs.Inside.{ofSource, serves, rankAs, rankOf, ranksIn, better, bestOf, reachesBy};
 
 // The lowest rank of kind 3.
-const SOURCE_RANK: u8 = 1;
+const SOURCE_RANK: usize = 1;
 
 // The rank of kind 2, above all of kind 3.
-const GROUP_RANK: u8 = 34;
+const GROUP_RANK: usize = 34;
 
 // What kind 1 ranks above.
-const BOTH_RANK: u8 = 35;
+const BOTH_RANK: usize = 35;
 
 // The route chosen, if one serves.
 pub enum Chosen {
@@ -29,9 +29,9 @@ pub enum Chosen {
     Nothing,
 }
 
-// The highest rank so far, and the place of the first route that has it.
+// The highest rank so far, and the place of the first route that has it: two words, with no bytes between to be carried along.
 struct Best {
-    rank: u8,
+    rank: usize,
     at: usize,
 }
 
@@ -63,7 +63,7 @@ fn serves(s: &[u8], at: usize, source: u32, group: u32) -> bool
 }
 
 // The rank of a route that serves, by its kind and the length of its source prefix.
-fn rank(kind: u8, bits: u8) -> u8
+fn rank(kind: u8, bits: usize) -> usize
     requires { ⌜ bits ≤ addressBits ⌝ }
     ensures { λ n. ⌜ n ≡ rankAs kind bits ⌝ }
 {
@@ -77,7 +77,7 @@ fn rank(kind: u8, bits: u8) -> u8
 }
 
 // The best so far, with the route at `k` and its rank.
-fn better(b: Best, rank: u8, k: usize) -> Best
+fn better(b: Best, rank: usize, k: usize) -> Best
     ensures { λ r. ⌜ r ≡ better b rank k ⌝ }
 {
     if b.rank < rank {
@@ -94,7 +94,7 @@ fn best_with(b: Best, s: &[u8], at: usize, k: usize, source: u32, group: u32) ->
     if !serves(s, at, source, group) {
         return b;
     }
-    better(b, rank(entry::kind_at(s, at), entry::length_at(s, at)), k)
+    better(b, rank(entry::kind_at(s, at), entry::length_at(s, at) as usize), k)
 }
 
 // One pass over routes that stand side by side, so many from route `first` on; `at` is its place.

@@ -25,6 +25,7 @@ best-with-spec =
     returns
     (λ c κs. search needs)
     (λ c κs. search needs)
+    (λ c. search needs)
     rank-requires
     (λ c κs. search needs)
     returns-2)
