@@ -94,7 +94,11 @@ fn best_with(b: Best, s: &[u8], at: usize, k: usize, source: u32, group: u32) ->
     if !serves(s, at, source, group) {
         return b;
     }
-    better(b, rank(entry::kind_at(s, at), entry::length_at(s, at) as usize), k)
+    better(
+        b,
+        rank(entry::kind_at(s, at), entry::length_at(s, at) as usize),
+        k,
+    )
 }
 
 // One pass over routes that stand side by side, so many from route `first` on; `at` is its place.

@@ -8,3 +8,5 @@ pub use Rattle.sheet.proofs.Entries.{interface-valid, interface-few, in
 pub use Rattle.sheet.proofs.Reading.{route-placed, routes-beside}
 -- who holds an address: an interface of the sheet, the lowest that does; nobody only where none does
 pub use Rattle.sheet.proofs.Holders.{holder-there, holder-holds, holder-lowest, nobody-holds}
+-- tests one after the other: one more that passes, and one that fails
+pub use Rattle.sheet.proofs.Numbered.{every-next, every-stops}

@@ -14,6 +14,7 @@ use Rattle.wire.specs.Addresses.{firstOctet, unicast}
 use Rattle.rows.proofs.Laws.{both-of, first-or-none, none-is, first-is}
 use Rattle.wire.proofs.Laws.{be-within}
 use Rattle.recent.specs.Entries.{empty}
+use Rattle.recent.proofs.Laws.{empty-well-formed}
 use Rattle.response.specs.declared.Note.{Note}
 use Rattle.response.specs.Fill.{allRouters}
 use Rattle.response.specs.Bytes.{noteBytes}
@@ -21,13 +22,20 @@ use Rattle.response.proofs.Laws.{note-length}
 use Rattle.message.specs.Format.{most, noteSize}
 use Rattle.message.specs.Header.{headerOf}
 use Rattle.drops.specs.Arrival.{Arrival}
-use Rattle.rows.specs.Rows.{firstOf, NoneApplies, IsFirst}
+use Rattle.drops.specs.Drop.{lendingRows}
+use Rattle.drops.specs.Inside.{lentRows}
+use Rattle.rows.specs.Rows.{byFirst, firstOf, NoneApplies, IsFirst}
 use Rattle.engine.specs.Answer.{sentBy}
 use Rattle.engine.specs.Step.{Outcome, outcome, answeredBy, stepOf}
 use Rattle.drops.proofs.Laws.{taken}
 use Rattle.engine.proofs.Laws.{drop-changes-nothing, taken-is-sent, sent-fits, sent-to, sent-noted}
 use Rattle.yard.specs.Walk.{notSent, rowsFor, sentFor}
 use Rattle.yard.specs.Inside.{Called}
+
+-- the walk lends what is right: room enough, and an empty recent list
+pub lent-right : (o n : List ℕ) → length o ≡ most → length n ≡ noteSize → firstOf (lentRows (length o) (length n) empty) ≡ 0
+unfolding lendingRows byFirst
+lent-right o n e f = rw (e, f, empty-well-formed)
 
 -- the record's length and destination are read back
 module _ (n : Note) where

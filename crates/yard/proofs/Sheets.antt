@@ -12,6 +12,7 @@ use lib.ListN.{length, take, drop, getD, set, length-set}
 use lib.Seq.{getD-set-same, getD-set-other}
 use Rattle.wire.proofs.Laws.{Wholes, wholes}
 use Rattle.rows.proofs.Laws.{both-of}
+use Rattle.sheet.proofs.Laws.{every-next, every-stops}
 use Rattle.sheet.specs.Every.{every}
 use Rattle.sheet.specs.Sheet.{layoutOf}
 use Rattle.sheet.specs.Tables.{holderOf}
@@ -32,9 +33,14 @@ module _ (yard : List ℕ) (i : ℕ) (l : Layout) (told : l ≡ layoutOf (take (
   layout-is : l ≡ layoutOf (sheetAt yard i)
   layout-is = told ∙ rw (lent-sheet yard i)
 
-  pub checked-more : (ok : Bool) → ok ≡ every (validAt yard) i → (ok && l .valid) ≡ every (validAt yard) (i + 1)
-  unfolding every
-  checked-more ok e = rw (add-one, ← e, layout-is)
+  valid-is : l .valid ≡ validAt yard i
+  valid-is = ap (λ (x : Layout). x .valid) layout-is
+
+  pub checked-more : true ≡ every (validAt yard) i → not (l .valid) ≡ false → true ≡ every (validAt yard) (i + 1)
+  checked-more e h = every-next (validAt yard) (l .valid) i e valid-is h
+
+  pub checked-wrong : (n : ℕ) → i < n → not (l .valid) ≡ true → false ≡ every (validAt yard) n
+  checked-wrong n h e = every-stops (validAt yard) (l .valid) n i valid-is e h
 
   pub counted-more : (counts first : List ℕ) (n : ℕ) → i < n → n ≤ length first → length counts ≡ length first → Counted yard counts i
       → Counted yard (set counts i (l .interfaces)) (i + 1)
@@ -61,8 +67,8 @@ module _ (yard : List ℕ) (n i : ℕ) (low : i ≤ n) (high : n ≤ i) where
   all-of : i ≡ n
   all-of = omega arith
 
-  pub checked-all : (ok : Bool) → ok ≡ every (validAt yard) i → ok ≡ every (validAt yard) n
-  checked-all ok e = e ∙ ap (every (validAt yard)) all-of
+  pub checked-all : true ≡ every (validAt yard) i → true ≡ every (validAt yard) n
+  checked-all e = e ∙ ap (every (validAt yard)) all-of
 
   pub counted-all : (counts : List ℕ) → Counted yard counts i → Counted yard counts n
   counted-all counts c = rw all-of at c
@@ -83,9 +89,9 @@ module _ (yard : List ℕ) (size : Bool) (told : size ≡ yardSizeOk (length yar
     pub sheets-counted : (counts : List ℕ) → mostRouters ≤ length counts → length yard / sheetSize ≤ length counts
     sheets-counted counts h = omega (arith, yard-sized .few)
 
-    pub yard-checked : (ok : Bool) (counts : List ℕ) → (ok ≡ every (validAt yard) (length yard / sheetSize)) × Counted yard counts (length yard / sheetSize) → YardChecked yard ok counts
+    pub yard-checked : (ok : Bool) (counts : List ℕ) → (ok ≡ every (validAt yard) (length yard / sheetSize)) × (ok ≡ true → Counted yard counts (length yard / sheetSize)) → YardChecked yard ok counts
     unfolding yardOk
-    yard-checked ok counts e = record { is = rw (← told, not-false size right) (e .0); counted = λ z. e .1 }
+    yard-checked ok counts e = record { is = rw (← told, not-false size right) (e .0); counted = e .1 }
 
 -- a yard that is right: its sizes, and each of its sheets
 pub yard-right : (yard : List ℕ) → yardOk yard ≡ true → Wholes sheetSize mostRouters (length yard)

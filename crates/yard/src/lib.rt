@@ -1,5 +1,6 @@
 // A trace walked from router to router: each is a call of the engine, and the walk calls itself for the next.
 use sheet::Holding;
+ghost use mathlib.Core.Bool.{true};
 ghost use mathlib.Core.Path.{_≡_};
 ghost use Prim.Native.Nat.{_+_, _*_, _/_, _≤_, _<_};
 ghost use lib.Dec.{eqb};
@@ -68,22 +69,23 @@ fn size_ok(size: usize) -> bool
     (size % SHEET_SIZE == 0) & (1 <= size / SHEET_SIZE) & (size / SHEET_SIZE <= MOST_ROUTERS)
 }
 
-// Every sheet of a yard of n is checked, and its interfaces are counted.
+// Every sheet of a yard of n is checked, up to the first that is wrong, and its interfaces are counted.
 fn sheets_ok(yard: &[u8], n: usize, counts: &mut [usize]) -> bool
     requires { ⌜ (n ≤ mostRouters) × (sheetSize * n ≤ length (now yard)) × (n ≤ length (now counts)) ⌝ }
-    ensures { λ r. ⌜ (r ≡ every (validAt (now (yard .entry))) n) × Counted (now (yard .entry)) (now (counts .exit)) n ⌝ }
+    ensures { λ r. ⌜ (r ≡ every (validAt (now (yard .entry))) n) × (r ≡ true → Counted (now (yard .entry)) (now (counts .exit)) n) ⌝ }
 {
-    let mut ok = true;
     let mut i: usize = 0;
     while i < n {
         let a = SHEET_SIZE * i;
         let e = a + SHEET_SIZE;
         let layout = sheet::check(&yard[a..e]);
-        ok = ok & layout.valid;
+        if !layout.valid {
+            return false;
+        }
         counts[i] = layout.interfaces;
         i += 1;
     }
-    ok
+    true
 }
 
 fn yard_ok(yard: &[u8], counts: &mut [usize]) -> bool
@@ -115,7 +117,7 @@ fn holder_in(yard: &[u8], counts: &[usize], n: usize, address: u32) -> Holder
     Holder::Nobody
 }
 
-// One call of the engine, with an empty recent list.
+// One call of the engine, with room enough and an empty recent list.
 fn ask(
     sheet: &[u8],
     time: u32,
@@ -130,7 +132,7 @@ fn ask(
 {
     let mut recent = [0u8; recent::LIST_SIZE];
     let mut note = [0u8; message::NOTE_SIZE];
-    let answer = engine::step(
+    let answer = engine::step_lent(
         message,
         destination,
         receiving,

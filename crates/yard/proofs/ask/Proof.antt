@@ -1,9 +1,13 @@
 -- `ask`: the engine is called once, and its record gives the length and the destination of what it sent.
 use Rattle.recent.specs.Entries.{empty}
-use Rattle.yard.proofs.Calls.{called}
+use Rattle.yard.proofs.Calls.{lent-right, called}
 use borrow.Author.Needs.{needs}
 use Rattle.yard.proofs.ask.Statement.{statement}
 use Rattle.yard.proofs.ask.Tie as tie
+
+step-lent-requires : tie.Need-step-lent-requires
+unfolding empty
+step-lent-requires c κs = search (lent-right, needs)
 
 returns : tie.Need-returns
 unfolding empty
@@ -15,7 +19,7 @@ ask-spec =
     (tie.spec
     (λ c. search needs)
     (λ c. search needs)
-    (λ c κs. search needs)
+    step-lent-requires
     (λ c. search needs)
     (λ c κs. search needs)
     (λ c. search needs)
