@@ -1,0 +1,83 @@
+//! Numbers in bytes, and classes of addresses. Little-endian reads are one load: they serve where bytes are only compared,
+//! masked or carried over, and a number's own order plays no part.
+
+/// N bytes where they lie.
+#[inline(always)]
+pub fn part<const N: usize>(bytes: &[u8], at: usize) -> &[u8; N] {
+    bytes[at..at + N].try_into().expect("N bytes")
+}
+
+/// N bytes by value.
+#[inline(always)]
+pub fn field<const N: usize>(bytes: &[u8], at: usize) -> [u8; N] {
+    *part(bytes, at)
+}
+
+#[inline(always)]
+pub fn be16(bytes: &[u8], at: usize) -> u16 {
+    u16::from_be_bytes(field(bytes, at))
+}
+
+#[inline(always)]
+pub fn be32(bytes: &[u8], at: usize) -> u32 {
+    u32::from_be_bytes(field(bytes, at))
+}
+
+#[inline(always)]
+pub fn be64(bytes: &[u8], at: usize) -> u64 {
+    u64::from_be_bytes(field(bytes, at))
+}
+
+#[inline(always)]
+pub fn le16(bytes: &[u8], at: usize) -> u16 {
+    u16::from_le_bytes(field(bytes, at))
+}
+
+#[inline(always)]
+pub fn le32(bytes: &[u8], at: usize) -> u32 {
+    u32::from_le_bytes(field(bytes, at))
+}
+
+#[inline(always)]
+pub fn le64(bytes: &[u8], at: usize) -> u64 {
+    u64::from_le_bytes(field(bytes, at))
+}
+
+/// Writes a field at its place.
+#[inline(always)]
+pub fn put<const N: usize>(bytes: &mut [u8], at: usize, field: [u8; N]) {
+    bytes[at..at + N].copy_from_slice(&field);
+}
+
+/// No group, no source, or an upstream that is not known: all ones, in either order.
+pub const ALL_ONES: u32 = u32::MAX;
+
+/// First octet 1 to 223, not 127.
+#[inline(always)]
+pub fn is_unicast(first_octet: u8) -> bool {
+    first_octet.wrapping_sub(1) < 223 && first_octet != 127
+}
+
+/// First octet 224 to 239.
+#[inline(always)]
+pub fn is_multicast(first_octet: u8) -> bool {
+    first_octet & 0xf0 == 0xe0
+}
+
+/// In 224.0.0.0/24.
+#[inline(always)]
+pub fn is_link_scoped(address: u32) -> bool {
+    address >> 8 == 0x00e0_0000
+}
+
+/// Whether two addresses agree in so many bits, at most 32.
+#[inline(always)]
+pub fn agree(one: u32, other: u32, bits: u8) -> bool {
+    (one ^ other).leading_zeros() >= u32::from(bits)
+}
+
+/// Whether all these 8-byte words are 0: an OR without an early end, which a compiler makes wide.
+#[inline(always)]
+pub fn all_zero(words: &[u8]) -> bool {
+    words.chunks_exact(8).fold(0, |bits, word| bits | le64(word, 0)) == 0
+}

@@ -1,0 +1,104 @@
+//! A message as it arrives: drop numbers 5 to 13, and what of it is needed later.
+
+use crate::bytes::{be16, is_multicast, is_unicast, le16, le32, ALL_ONES};
+
+pub const HEADER: usize = 20;
+pub const STANDARD: usize = 52;
+/// No message passes this.
+pub const MOST: usize = 1472;
+pub const REQUEST: u8 = 2;
+pub const REPLY: u8 = 3;
+const QUERY: u8 = 1;
+
+/// Type 4, length 52 and zero, as a block begins that a router writes; of a block received the zero is not looked at.
+pub const STANDARD_HEAD: u32 = u32::from_le_bytes([4, 0, STANDARD as u8, 0]);
+const TYPE_AND_LENGTH: u32 = u32::from_le_bytes([!0, !0, !0, 0]);
+const AUGMENTED: u8 = 5;
+
+/// A well-formed message. A Query has no blocks.
+#[derive(Clone, Copy)]
+pub struct Message<'a> {
+    pub header: &'a [u8; HEADER],
+    pub standards: usize,
+    /// Where the last type 4 block begins.
+    pub last: usize,
+}
+
+impl Message<'_> {
+    #[inline(always)]
+    pub fn is_query(&self) -> bool {
+        self.header[0] == QUERY
+    }
+
+    #[inline(always)]
+    pub fn hops(&self) -> usize {
+        usize::from(self.header[3])
+    }
+}
+
+/// The message, or the number of the row that drops it.
+#[inline]
+pub fn check(bytes: &[u8]) -> Result<Message<'_>, u32> {
+    let header = bytes.first_chunk::<HEADER>().ok_or(5_u32)?;
+    if bytes.len() > MOST {
+        return Err(5);
+    }
+    check_header(header)?;
+    if header[0] == QUERY {
+        return if bytes.len() == HEADER { Ok(Message { header, standards: 0, last: 0 }) } else { Err(13) };
+    }
+    let (standards, last) = blocks(bytes).ok_or(13_u32)?;
+    Ok(Message { header, standards, last })
+}
+
+/// Rows 6 to 12.
+#[inline(always)]
+fn check_header(header: &[u8; HEADER]) -> Result<(), u32> {
+    let (group, source) = (le32(header, 4), le32(header, 8));
+    let rows = [
+        (6, header[0] != QUERY && header[0] != REQUEST),
+        (7, be16(header, 1) != HEADER as u16),
+        (8, header[3] == 0),
+        (9, !is_multicast(header[4]) && group != ALL_ONES),
+        (10, !is_unicast(header[8]) && source != ALL_ONES),
+        (11, group == ALL_ONES && source == ALL_ONES),
+        (12, !is_unicast(header[12]) || le16(header, 18) == 0),
+    ];
+    for (number, applies) in rows {
+        if applies {
+            return Err(number);
+        }
+    }
+    Ok(())
+}
+
+/// How many type 4 blocks a Request has, and where the last begins; None where its blocks do not fill it, or the first is of
+/// another type.
+#[inline(always)]
+fn blocks(message: &[u8]) -> Option<(usize, usize)> {
+    let mut rest = &message[HEADER..];
+    let (mut standards, mut last) = (0, 0);
+    while !rest.is_empty() {
+        let length = if is_standard(rest) {
+            standards += 1;
+            last = message.len() - rest.len();
+            STANDARD
+        } else {
+            augmented(rest).filter(|_| standards > 0)?
+        };
+        rest = &rest[length..];
+    }
+    (standards > 0).then_some((standards, last))
+}
+
+#[inline(always)]
+fn is_standard(rest: &[u8]) -> bool {
+    rest.len() >= STANDARD && le32(rest, 0) & TYPE_AND_LENGTH == STANDARD_HEAD
+}
+
+/// The length of the Augmented block that begins here.
+fn augmented(rest: &[u8]) -> Option<usize> {
+    let head = rest.first_chunk::<3>()?;
+    let length = usize::from(be16(head, 1));
+    (head[0] == AUGMENTED && length >= 8 && length % 4 == 0 && length <= rest.len()).then_some(length)
+}

@@ -1,0 +1,51 @@
+//! The recent list, in the bytes that are lent for it.
+
+use crate::bytes::{all_zero, field, le32, le64};
+
+pub const SIZE: usize = 196;
+const HEAD: usize = 4;
+const ENTRY: usize = 6;
+const MOST: usize = 32;
+
+/// A Query's client and id: 6 bytes as they lie in header and list.
+#[derive(Clone, Copy)]
+pub struct Seen(pub [u8; ENTRY]);
+
+pub fn is_well_formed(list: &[u8; SIZE]) -> bool {
+    let [used, next, ..] = *list;
+    let counted = if used < MOST as u8 { next == used } else { used == MOST as u8 && next < MOST as u8 };
+    counted && le32(list, 0) >> 16 == 0 && unused_are_zero(list, ENTRY * usize::from(used))
+}
+
+/// Whether the entries from byte `filled` of them on are zero: of the word in which they begin those bytes, then whole words.
+#[inline(always)]
+fn unused_are_zero(list: &[u8; SIZE], filled: usize) -> bool {
+    let words = &list[HEAD + filled / 8 * 8..];
+    match words.split_first_chunk::<8>() {
+        Some((first, rest)) => le64(first, 0) >> (8 * (filled % 8)) == 0 && all_zero(rest),
+        None => true,
+    }
+}
+
+/// Whether a well-formed list has an entry.
+#[inline]
+pub fn has(list: &[u8; SIZE], Seen(entry): Seen) -> bool {
+    let [a, b, c, d, e, f] = entry;
+    let wanted = u64::from_le_bytes([a, b, c, d, e, f, 0, 0]);
+    // each entry is read with the 2 bytes before it, so that the last one's 8 bytes are inside the list
+    (0..usize::from(list[0]).min(MOST)).any(|place| le64(list, HEAD - 2 + ENTRY * place) >> 16 == wanted)
+}
+
+pub fn enter(list: &mut [u8; SIZE], Seen(entry): Seen) {
+    let next = usize::from(list[1]) % MOST;
+    let at = HEAD + ENTRY * next;
+    list[at..at + ENTRY].copy_from_slice(&entry);
+    list[0] = (list[0] + 1).min(MOST as u8);
+    list[1] = ((next + 1) % MOST) as u8;
+}
+
+/// The entry that a header asks for.
+#[inline(always)]
+pub fn entry_of(header: &[u8; 20]) -> Seen {
+    Seen(field(header, 12))
+}
