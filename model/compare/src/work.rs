@@ -222,19 +222,30 @@ fn choices() -> Vec<Work> {
     works
 }
 
-/// A step that is dropped by 3 for a sheet without a byte less one that is dropped by 2 for a list without one.
+/// The check: a step that is dropped by 2 for what is last looked at in the list less one dropped by 2 for a list without a
+/// byte. The search: rows 14 to 18 as in [`choosing`], without routes, less the same with an empty list.
 fn lists() -> Vec<Work> {
-    let by_3 = |count| Call::Step(Step { recent: recent(count), ..step(message(0), Vec::new()) });
-    let by_2 = || Call::Step(Step { recent: Vec::new(), ..step(message(0), Vec::new()) });
-    // behind the list's check and search: with by_3 taken off, what is left beyond an empty list is the search
+    let without_sheet = |recent| Call::Step(Step { recent, ..step(message(0), Vec::new()) });
+    let wrong = |count| {
+        let mut list = recent(count);
+        // the last byte, or next where every byte is in use
+        list[if count == 32 { 1 } else { 195 }] = 255;
+        without_sheet(list)
+    };
     let by_18 = |count| Call::Step(Step { recent: recent(count), ..from_elsewhere(sheet(2, Vec::new())) });
+    let by_13 = |count| {
+        let mut step = Step { recent: recent(count), ..from_elsewhere(sheet(2, Vec::new())) };
+        step.message.push(0);
+        Call::Step(step)
+    };
     let mut works = Vec::new();
     for (name, count) in [("empty", 0), ("half full", 16), ("full", 32)] {
-        works.push(Work::new(format!("recent list, {name}: checked"), by_3(count), 3).less(by_2(), 2));
+        let work = Work::new(format!("recent list, {name}: checked"), wrong(count), 2);
+        works.push(work.less(without_sheet(Vec::new()), 2));
     }
     for (name, count) in [("half full", 16), ("full", 32)] {
         let work = Work::new(format!("recent list, {name}: searched, beyond an empty one"), by_18(count), 18);
-        works.push(work.less(by_3(count), 3).less(by_18(0), 18).and(by_3(0), 3));
+        works.push(work.less(by_13(count), 13).less(by_18(0), 18).and(by_13(0), 13));
     }
     works
 }

@@ -7,6 +7,12 @@ pub fn part<const N: usize>(bytes: &[u8], at: usize) -> &[u8; N] {
     bytes[at..at + N].try_into().expect("N bytes")
 }
 
+/// The first N bytes, to be written.
+#[inline(always)]
+pub fn part_mut<const N: usize>(bytes: &mut [u8]) -> &mut [u8; N] {
+    bytes.first_chunk_mut().expect("N bytes")
+}
+
 /// N bytes by value.
 #[inline(always)]
 pub fn field<const N: usize>(bytes: &[u8], at: usize) -> [u8; N] {
@@ -52,10 +58,36 @@ pub fn put<const N: usize>(bytes: &mut [u8], at: usize, field: [u8; N]) {
 /// No group, no source, or an upstream that is not known: all ones, in either order.
 pub const ALL_ONES: u32 = u32::MAX;
 
-/// First octet 1 to 223, not 127.
+/// What an address is by its first octet. A table, since it is asked of every entry of a sheet.
+#[derive(Clone, Copy, PartialEq, Eq)]
+pub enum Class {
+    /// First octet 1 to 223, not 127.
+    Unicast,
+    /// First octet 0 or 255, as 0 and all ones have.
+    Edge,
+    Other,
+}
+
+static CLASSES: [Class; 256] = {
+    let mut classes = [Class::Other; 256];
+    let mut octet = 1;
+    while octet < 224 {
+        classes[octet] = Class::Unicast;
+        octet += 1;
+    }
+    classes[127] = Class::Other;
+    (classes[0], classes[255]) = (Class::Edge, Class::Edge);
+    classes
+};
+
+#[inline(always)]
+pub fn class(first_octet: u8) -> Class {
+    CLASSES[usize::from(first_octet)]
+}
+
 #[inline(always)]
 pub fn is_unicast(first_octet: u8) -> bool {
-    first_octet.wrapping_sub(1) < 223 && first_octet != 127
+    class(first_octet) == Class::Unicast
 }
 
 /// First octet 224 to 239.
@@ -76,8 +108,20 @@ pub fn agree(one: u32, other: u32, bits: u8) -> bool {
     (one ^ other).leading_zeros() >= u32::from(bits)
 }
 
-/// Whether all these 8-byte words are 0: an OR without an early end, which a compiler makes wide.
+/// Whether all these 8-byte words are 0: an OR of eight a turn without an early end, then what is left of them one by one.
 #[inline(always)]
 pub fn all_zero(words: &[u8]) -> bool {
-    words.chunks_exact(8).fold(0, |bits, word| bits | le64(word, 0)) == 0
+    let eights = words.chunks_exact(64);
+    for word in eights.remainder().chunks_exact(8) {
+        if le64(word, 0) != 0 {
+            return false;
+        }
+    }
+    let mut bits = [0; 8];
+    for eight in eights {
+        for (bits, word) in bits.iter_mut().zip(eight.chunks_exact(8)) {
+            *bits |= le64(word, 0);
+        }
+    }
+    bits.iter().fold(0, |all, bits| all | bits) == 0
 }

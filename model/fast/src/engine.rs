@@ -1,6 +1,6 @@
 //! One router's step over lent bytes: the drop table in its order, the cheap rows before the sheet is looked at.
 
-use crate::bytes::{be32, field, is_link_scoped, le32, put};
+use crate::bytes::{be32, field, is_link_scoped, le32, part, part_mut, put};
 use crate::message::{self, Message, HEADER, MOST, REPLY, REQUEST, STANDARD};
 use crate::recent::{self, Seen};
 use crate::response::{mark_full, Onward, Visit};
@@ -23,7 +23,7 @@ pub struct Arrival {
 }
 
 /// The Queries that a router has seen: a recent list, or none of a router that is visited in a walk.
-pub trait Queries {
+pub(crate) trait Queries {
     fn has(&self, query: Seen) -> bool;
     fn enter(&mut self, query: Seen);
 }
@@ -39,7 +39,7 @@ impl Queries for [u8; recent::SIZE] {
 }
 
 /// What was sent: the length of the message in the output, and where it goes if it goes on.
-pub struct Sent<'a> {
+pub(crate) struct Sent<'a> {
     pub length: usize,
     pub onward: Option<Onward<'a>>,
     from: &'a Interface,
@@ -53,21 +53,36 @@ pub fn step(
     output: &mut [u8],
     record: &mut [u8],
 ) -> u32 {
-    let (Some(output), Some(record)) = (output.first_chunk_mut(), record.first_chunk_mut()) else { return 1 };
+    if output.len() < MOST || record.len() < RECORD {
+        return 1;
+    }
+    step_with_room(message, arrival, sheet, recent, output, record)
+}
+
+/// From row 2 on. It takes what [`step`] takes, so that the first row costs no more than itself.
+#[inline(never)]
+fn step_with_room(
+    message: &[u8],
+    arrival: Arrival,
+    sheet: &[u8],
+    recent: &mut [u8],
+    output: &mut [u8],
+    record: &mut [u8],
+) -> u32 {
     let Ok(recent) = <&mut [u8; recent::SIZE]>::try_from(recent) else { return 2 };
     if !recent::is_well_formed(recent) {
         return 2;
     }
     let Some(sheet) = sheet::check(sheet) else { return 3 };
-    match answer(message, arrival, sheet, recent, output) {
-        Ok(sent) => write_record(&sent, part_of_header(message), record),
+    match answer(message, arrival, sheet, recent, part_mut(output)) {
+        Ok(sent) => write_record(&sent, part(message, 0), part_mut(record)),
         Err(drop) => drop,
     }
 }
 
 /// Rows 4 to 18, then the message that is sent.
 #[inline(always)]
-pub fn answer<'a>(
+pub(crate) fn answer<'a>(
     bytes: &[u8],
     arrival: Arrival,
     sheet: Sheet<'a>,
@@ -140,12 +155,6 @@ fn send_longer<'a>(bytes: &[u8], message: &Message, visit: &Visit<'a>, output: &
     let onward = visit.onward(message.standards + 1 == message.hops());
     output[0] = if onward.is_some() { REQUEST } else { REPLY };
     Sent { length: bytes.len() + STANDARD, onward, from: visit.interface }
-}
-
-/// The header of a message that was accepted.
-#[inline(always)]
-fn part_of_header(message: &[u8]) -> &[u8; HEADER] {
-    message.first_chunk().expect("an accepted message has a header")
 }
 
 #[inline(always)]

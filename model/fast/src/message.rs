@@ -55,19 +55,26 @@ pub fn check(bytes: &[u8]) -> Result<Message<'_>, u32> {
 #[inline(always)]
 fn check_header(header: &[u8; HEADER]) -> Result<(), u32> {
     let (group, source) = (le32(header, 4), le32(header, 8));
-    let rows = [
-        (6, header[0] != QUERY && header[0] != REQUEST),
-        (7, be16(header, 1) != HEADER as u16),
-        (8, header[3] == 0),
-        (9, !is_multicast(header[4]) && group != ALL_ONES),
-        (10, !is_unicast(header[8]) && source != ALL_ONES),
-        (11, group == ALL_ONES && source == ALL_ONES),
-        (12, !is_unicast(header[12]) || le16(header, 18) == 0),
-    ];
-    for (number, applies) in rows {
-        if applies {
-            return Err(number);
-        }
+    if header[0] != QUERY && header[0] != REQUEST {
+        return Err(6);
+    }
+    if be16(header, 1) != HEADER as u16 {
+        return Err(7);
+    }
+    if header[3] == 0 {
+        return Err(8);
+    }
+    if !is_multicast(header[4]) && group != ALL_ONES {
+        return Err(9);
+    }
+    if !is_unicast(header[8]) && source != ALL_ONES {
+        return Err(10);
+    }
+    if group == ALL_ONES && source == ALL_ONES {
+        return Err(11);
+    }
+    if !is_unicast(header[12]) || le16(header, 18) == 0 {
+        return Err(12);
     }
     Ok(())
 }

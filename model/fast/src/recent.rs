@@ -11,24 +11,30 @@ const MOST: usize = 32;
 #[derive(Clone, Copy)]
 pub struct Seen(pub [u8; ENTRY]);
 
+#[inline(always)]
 pub fn is_well_formed(list: &[u8; SIZE]) -> bool {
     let [used, next, ..] = *list;
-    let counted = if used < MOST as u8 { next == used } else { used == MOST as u8 && next < MOST as u8 };
-    counted && le32(list, 0) >> 16 == 0 && unused_are_zero(list, ENTRY * usize::from(used))
-}
-
-/// Whether the entries from byte `filled` of them on are zero: of the word in which they begin those bytes, then whole words.
-#[inline(always)]
-fn unused_are_zero(list: &[u8; SIZE], filled: usize) -> bool {
-    let words = &list[HEAD + filled / 8 * 8..];
-    match words.split_first_chunk::<8>() {
-        Some((first, rest)) => le64(first, 0) >> (8 * (filled % 8)) == 0 && all_zero(rest),
-        None => true,
+    if le32(list, 0) >> 16 != 0 || usize::from(next) >= MOST {
+        return false;
+    }
+    match usize::from(used) {
+        MOST => true,
+        0 => next == 0 && all_zero(&list[HEAD..]), // as below, of a length that a compiler knows
+        used if used < MOST => usize::from(next) == used && unused_are_zero(list, ENTRY * used),
+        _ => false,
     }
 }
 
+/// Whether the entries from byte `filled` of them on are zero: those bytes in the word that they begin in, then whole words.
+#[inline(always)]
+fn unused_are_zero(list: &[u8; SIZE], filled: usize) -> bool {
+    let (whole, part) = (HEAD + filled.next_multiple_of(8), filled % 8);
+    let begun_are_zero = part == 0 || le64(list, whole - 8) >> (8 * part) == 0;
+    begun_are_zero && all_zero(&list[whole..])
+}
+
 /// Whether a well-formed list has an entry.
-#[inline]
+#[inline(always)]
 pub fn has(list: &[u8; SIZE], Seen(entry): Seen) -> bool {
     let [a, b, c, d, e, f] = entry;
     let wanted = u64::from_le_bytes([a, b, c, d, e, f, 0, 0]);
@@ -36,6 +42,7 @@ pub fn has(list: &[u8; SIZE], Seen(entry): Seen) -> bool {
     (0..usize::from(list[0]).min(MOST)).any(|place| le64(list, HEAD - 2 + ENTRY * place) >> 16 == wanted)
 }
 
+#[inline(always)]
 pub fn enter(list: &mut [u8; SIZE], Seen(entry): Seen) {
     let next = usize::from(list[1]) % MOST;
     let at = HEAD + ENTRY * next;

@@ -91,24 +91,29 @@ impl<'a> Visit<'a> {
             return if self.wrong_last_hop { WRONG_LAST_HOP } else { NO_ROUTE };
         };
         let receiving = (1_u64 << self.receiving).swap_bytes(); // its bit in a map as it lies
-        let rows = [
-            (WRONG_LAST_HOP, self.wrong_last_hop),
-            (8, is_rp(route)),
-            (0x83, self.sheet.is_prohibited()),
-            (0x0a, self.interface[5] & MULTICAST == 0),
-            (9, usize::from(be16(route, 16)) == self.receiving),
-            (1, le64(route, 32) & receiving == 0),
-            (4, group_octet == SCOPED && self.has_boundary(route)),
-            (2, route[2] & PRUNE_SENT != 0),
-            (3, le64(route, 40) & receiving != 0),
-            (7, le64(route, 48) & receiving != 0),
-        ];
-        for (code, applies) in rows {
-            if applies {
-                return code;
-            }
+        if self.wrong_last_hop {
+            WRONG_LAST_HOP
+        } else if is_rp(route) {
+            8
+        } else if self.sheet.is_prohibited() {
+            0x83
+        } else if self.interface[5] & MULTICAST == 0 {
+            0x0a
+        } else if usize::from(be16(route, 16)) == self.receiving {
+            9
+        } else if le64(route, 32) & receiving == 0 {
+            1
+        } else if group_octet == SCOPED && self.has_boundary(route) {
+            4
+        } else if route[2] & PRUNE_SENT != 0 {
+            2
+        } else if le64(route, 40) & receiving != 0 {
+            3
+        } else if le64(route, 48) & receiving != 0 {
+            7
+        } else {
+            0
         }
-        0
     }
 
     /// Whether the receiving or the incoming interface is a boundary.

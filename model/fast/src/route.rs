@@ -1,8 +1,8 @@
 //! Which route, and the proper last hop.
 
-use crate::bytes::{agree, be32, be64, le32, ALL_ONES};
+use crate::bytes::{agree, be32, be64, le32, part, ALL_ONES};
 use crate::sheet::Sheet;
-use crate::table::{Route, BLOCK, ENTRIES, ROUTE};
+use crate::table::{entries, Route, BLOCK};
 
 const RP: u8 = 1;
 
@@ -16,11 +16,10 @@ pub struct Wanted {
 /// The route of the highest rank, and of equal ones the first.
 #[inline]
 pub fn choose<'a>(sheet: &Sheet<'a>, wanted: Wanted) -> Option<&'a Route> {
-    let mut chosen: Option<&[u8]> = None;
+    let mut chosen = None;
     let mut highest = 0;
     for block in sheet.route_blocks.chunks_exact(BLOCK) {
-        let used = usize::from(block[1]);
-        for route in block[ENTRIES..ENTRIES + ROUTE * used].chunks_exact(ROUTE) {
+        for route in entries(part(block, 0), usize::from(block[1])) {
             // in a valid sheet a group of 0 is kind 3, and any other is kind 1 or 2; most are neither ours nor 0
             let group = le32(route, 8);
             if group == wanted.group || group == 0 {
@@ -32,13 +31,13 @@ pub fn choose<'a>(sheet: &Sheet<'a>, wanted: Wanted) -> Option<&'a Route> {
             }
         }
     }
-    chosen?.try_into().ok()
+    chosen
 }
 
 /// 0 where a route of our group, or of none, does not serve the source. Kind 1 comes before kind 2, and that before kind 3; of
 /// kinds 1 and 3 the longer before the shorter.
 #[inline(always)]
-fn rank(route: &[u8], source: u32) -> u32 {
+fn rank(route: &Route, source: u32) -> u32 {
     let (kind, length) = (route[0], route[1]);
     if kind == 2 {
         return 64;

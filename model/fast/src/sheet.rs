@@ -6,6 +6,8 @@ use crate::table::{INTERFACE, INTERFACES, SWITCHES};
 
 const MOST_BLOCKS: usize = 16;
 const MOST_INTERFACES: usize = 64;
+/// Bytes between the last entry of a block and the first of the next.
+const BETWEEN: usize = BLOCK - INTERFACE * FULL_OF_INTERFACES;
 
 /// A valid sheet: its blocks of interfaces, those of routes, and how many interfaces there are.
 #[derive(Clone, Copy)]
@@ -32,14 +34,21 @@ pub fn check(bytes: &[u8]) -> Option<Sheet<'_>> {
     if interfaces == 0 {
         return None;
     }
+    let right = route_blocks.is_empty() || routes_ok(route_blocks, of_interfaces, interfaces);
+    right.then_some(Sheet { interface_blocks, route_blocks, interfaces })
+}
+
+/// A function of its own, so that what the other blocks need is not held while it runs.
+#[inline(never)]
+fn routes_ok(blocks: &[u8], first: usize, interfaces: usize) -> bool {
     let mut before = FULL_OF_ROUTES;
-    for (place, block) in (of_interfaces..).zip(route_blocks.chunks_exact(BLOCK)) {
-        if before != FULL_OF_ROUTES {
-            return None;
+    for (place, block) in (first..).zip(blocks.chunks_exact(BLOCK)) {
+        match routes_in(part(block, 0), place, interfaces) {
+            Some(used) if before == FULL_OF_ROUTES => before = used,
+            _ => return false,
         }
-        before = routes_in(block.try_into().ok()?, place, interfaces)?;
     }
-    Some(Sheet { interface_blocks, route_blocks, interfaces })
+    true
 }
 
 impl<'a> Sheet<'a> {
@@ -62,8 +71,9 @@ impl<'a> Sheet<'a> {
 
     #[inline(always)]
     pub fn interface(&self, number: usize) -> &'a Interface {
-        let (block, place) = (number / FULL_OF_INTERFACES, number % FULL_OF_INTERFACES);
-        part(self.interface_blocks, BLOCK * block + ENTRIES + INTERFACE * place)
+        // there are at most 64, and of a byte the quotient is one multiplication
+        let before = usize::from(number as u8 / FULL_OF_INTERFACES as u8);
+        part(self.interface_blocks, ENTRIES + INTERFACE * number + BETWEEN * before)
     }
 
     /// The addresses of the interfaces, as they lie in memory.

@@ -1,6 +1,6 @@
 //! One 512-byte block of a sheet: its frame and its entries, checked in one pass over its bytes.
 
-use crate::bytes::{all_zero, be16, be32, is_multicast, is_unicast, le16, le32, le64, part, ALL_ONES};
+use crate::bytes::{all_zero, be16, be32, class, is_multicast, is_unicast, le16, le32, le64, part, Class};
 
 pub const BLOCK: usize = 512;
 pub const ENTRIES: usize = 4;
@@ -12,28 +12,44 @@ pub const INTERFACE: usize = 24;
 pub const FULL_OF_INTERFACES: usize = 21;
 pub const ROUTE: usize = 56;
 pub const FULL_OF_ROUTES: usize = 9;
+/// The switch of the first block, as it lies.
+const PROHIBITED: u16 = u16::from_le_bytes([0, 1]);
 /// An incoming interface that is not known.
 pub const UNKNOWN: u16 = 65_535;
 
 pub type Interface = [u8; INTERFACE];
 pub type Route = [u8; ROUTE];
 
-/// The sum of a block's words, 8 bytes at a time with their carries apart. Modulo 65535 neither the order of the bytes in
-/// a word nor the width of the words matters, and a block that has a kind never sums to 0: so its end-around sum is 0xFFFF
-/// exactly where this one is a multiple of 65535.
-struct Sum(u128);
+/// The sum of a block's words, 8 bytes at a time, and its carries. Modulo 65535 neither the order of the bytes in a word nor
+/// the width of the words matters, and a block that has a kind never sums to 0: so its end-around sum is 0xFFFF exactly where
+/// this one is a multiple of 65535.
+struct Sum {
+    words: u64,
+    carries: u64,
+}
 
 impl Sum {
+    /// What is outside a block's entries.
+    #[inline(always)]
+    fn of_frame(block: &[u8; BLOCK]) -> Sum {
+        Sum { words: u64::from(le32(block, 0)) + u64::from(le32(block, SWITCHES)), carries: 0 }
+    }
+
+    /// A chain of additions, each of which takes the carry of the one before.
     #[inline(always)]
     fn add(&mut self, entry: &[u8]) {
+        let mut carry = false;
         for word in entry.chunks_exact(8) {
-            self.0 += u128::from(le64(word, 0));
+            let (sum, over) = self.words.overflowing_add(le64(word, 0));
+            let (sum, over_again) = sum.overflowing_add(u64::from(carry));
+            (self.words, carry) = (sum, over | over_again);
         }
+        self.carries += u64::from(carry);
     }
 
     #[inline(always)]
     fn is_right(&self) -> bool {
-        let (sum, carry) = (self.0 as u64).overflowing_add((self.0 >> 64) as u64);
+        let (sum, carry) = self.words.overflowing_add(self.carries);
         (sum + u64::from(carry)) % 65_535 == 0
     }
 }
@@ -43,44 +59,56 @@ impl Sum {
 fn used(block: &[u8; BLOCK], kind: u8, full: usize, place: usize) -> Option<usize> {
     let head = le32(block, 0) ^ (place as u32) << 24; // takes the right number out
     let used = head as usize >> 8;
-    let switch = if place == 0 { le16(&[0, 1], 0) } else { 0 };
-    let right = head & 0xffff_00ff == u32::from(kind) && le16(block, SWITCHES) & !switch == 0;
-    (right && used.wrapping_sub(1) < full).then_some(used)
+    (head & 0xffff_00ff == u32::from(kind) && used.wrapping_sub(1) < full).then_some(used)
 }
 
-/// The sum that a block begins with: what is outside its entries.
+/// The entries in use, each of N bytes. A compiler sees by `zip` that they are inside.
 #[inline(always)]
-fn frame(block: &[u8; BLOCK]) -> Sum {
-    Sum(u128::from(u64::from(le32(block, 0)) + u64::from(le32(block, SWITCHES))))
+pub fn entries<const N: usize>(block: &[u8; BLOCK], used: usize) -> impl Iterator<Item = &[u8; N]> {
+    block[ENTRIES..SWITCHES].chunks_exact(N).zip(0..used).map(|(entry, _)| part(entry, 0))
+}
+
+/// Whether the entries behind those in use are 0. Of most blocks there are none.
+#[inline(always)]
+fn rest_is_zero<const N: usize>(block: &[u8; BLOCK], used: usize) -> bool {
+    let behind = ENTRIES + N * used;
+    behind == SWITCHES || all_zero(&block[behind..SWITCHES])
 }
 
 /// The number of entries in use of a valid block of interfaces.
+#[inline(always)]
 pub fn interfaces_in(block: &[u8; BLOCK], place: usize) -> Option<usize> {
     let used = used(block, INTERFACES, FULL_OF_INTERFACES, place)?;
-    let (entries, unused) = block[ENTRIES..SWITCHES].split_at(INTERFACE * used);
-    let mut sum = frame(block);
-    for entry in entries.chunks_exact(INTERFACE) {
-        if !interface_ok(part(entry, 0)) {
+    let prohibition = if place == 0 { PROHIBITED } else { 0 };
+    if le16(block, SWITCHES) & !prohibition != 0 {
+        return None;
+    }
+    let mut sum = Sum::of_frame(block);
+    for entry in entries(block, used) {
+        if !interface_ok(entry) {
             return None;
         }
         sum.add(entry);
     }
-    (all_zero(unused) && sum.is_right()).then_some(used)
+    (rest_is_zero::<INTERFACE>(block, used) && sum.is_right()).then_some(used)
 }
 
 /// The number of entries in use of a valid block of routes, in a sheet of so many interfaces.
+#[inline(always)]
 pub fn routes_in(block: &[u8; BLOCK], place: usize, interfaces: usize) -> Option<usize> {
     let used = used(block, ROUTES, FULL_OF_ROUTES, place)?;
-    let (entries, unused) = block[ENTRIES..SWITCHES].split_at(ROUTE * used);
+    if le16(block, SWITCHES) != 0 {
+        return None;
+    }
     let outside = bits_outside(interfaces);
-    let mut sum = frame(block);
-    for entry in entries.chunks_exact(ROUTE) {
-        if !route_ok(part(entry, 0), interfaces, outside) {
+    let mut sum = Sum::of_frame(block);
+    for entry in entries(block, used) {
+        if !route_ok(entry, interfaces, outside) {
             return None;
         }
         sum.add(entry);
     }
-    (all_zero(unused) && sum.is_right()).then_some(used)
+    (rest_is_zero::<ROUTE>(block, used) && sum.is_right()).then_some(used)
 }
 
 /// The bits of a map, as it lies in memory, that stand for no interface.
@@ -89,52 +117,60 @@ fn bits_outside(interfaces: usize) -> u64 {
     u64::MAX.checked_shl(interfaces as u32).unwrap_or(0).swap_bytes()
 }
 
-/// Undefined flags and the zero byte of an interface.
-const INTERFACE_ZEROS: u64 = u64::from_le_bytes([0, 0, 0, 0, 0, !3, 0, !0]);
+/// What must be 0 in the first 8 bytes of an interface once 1 is taken off its length: the bits of 32 and more in the length,
+/// undefined flags, the zero byte. A length of 0 borrows, and so has those bits.
+const INTERFACE_ZEROS: u64 = u64::from_le_bytes([0, 0, 0, 0, !31, !3, 0, !0]);
+const INTERFACE_LENGTH: u64 = u64::from_le_bytes([0, 0, 0, 0, 1, 0, 0, 0]);
 
 #[inline(always)]
 fn interface_ok(entry: &Interface) -> bool {
-    le64(entry, 0) & INTERFACE_ZEROS == 0 && entry[4].wrapping_sub(1) < 32 && is_unicast(entry[0])
+    le64(entry, 0).wrapping_sub(INTERFACE_LENGTH) & INTERFACE_ZEROS == 0 && is_unicast(entry[0])
 }
 
-/// What is fixed in the first 8 bytes of a route: of kind 2 all but its two flags, of the others kind, undefined flags (RP is
-/// one) and zero.
+/// What is fixed in the first bytes of a route. Kind 2: all but two flags, the source too. Kind 1, with 1 taken off its length
+/// as above, and kind 3: kind, undefined flags (RP is one) and zero.
 const GROUP_FIXED: u64 = u64::from_le_bytes([!0, !0, !3, !0, !0, !0, !0, !0]);
+const BOTH_FIXED: u32 = u32::from_le_bytes([!0, !31, !2, !0]);
+const BOTH_LENGTH: u32 = u32::from_le_bytes([0, 1, 0, 0]);
 const SOURCE_FIXED: u32 = u32::from_le_bytes([!0, 0, !2, !0]);
 
 #[inline(always)]
 fn route_ok(route: &Route, interfaces: usize, outside: u64) -> bool {
-    let maps = le64(route, 32) | le64(route, 40) | le64(route, 48);
-    what_ok(route) && maps & outside == 0 && le16(route, 22) == 0 && way_ok(route, interfaces)
+    if (le64(route, 32) | le64(route, 40) | le64(route, 48)) & outside != 0 || le16(route, 22) != 0 {
+        return false;
+    }
+    way_ok(route, interfaces) && what_ok(route)
 }
 
 /// Kind, source length, flags, source and group.
 #[inline(always)]
 fn what_ok(route: &Route) -> bool {
     let first = le32(route, 0);
-    let length = route[1];
-    match first as u8 {
-        2 => le64(route, 0) & GROUP_FIXED == 2 && is_multicast(route[8]),
-        1 => first & SOURCE_FIXED == 1 && length != 0 && zero_past(route, length) && is_multicast(route[8]),
-        3 => first & SOURCE_FIXED == 3 && zero_past(route, length) && le32(route, 8) == 0,
-        _ => false,
+    if le64(route, 0) & GROUP_FIXED == 2 {
+        is_multicast(route[8])
+    } else if first.wrapping_sub(BOTH_LENGTH) & BOTH_FIXED == 1 {
+        is_multicast(route[8]) && zero_past(route, route[1])
+    } else {
+        first & SOURCE_FIXED == 3 && le32(route, 8) == 0 && route[1] <= 32 && zero_past(route, route[1])
     }
 }
 
-/// Whether the length is at most 32, and the source has no bit past it.
+/// Whether the source has no bit past its length, at most 32.
 #[inline(always)]
 fn zero_past(route: &Route, length: u8) -> bool {
-    length <= 32 && (u64::from(be32(route, 4)) << length) as u32 == 0
+    (u64::from(be32(route, 4)) << length) as u32 == 0
 }
 
 /// Incoming interface and upstream.
 #[inline(always)]
 fn way_ok(route: &Route, interfaces: usize) -> bool {
     let incoming = be16(route, 16);
-    let upstream = le32(route, 12);
-    if usize::from(incoming) < interfaces {
-        is_unicast(route[12]) || upstream == 0 || upstream == ALL_ONES
-    } else {
-        incoming == UNKNOWN && upstream == 0
+    if usize::from(incoming) >= interfaces {
+        return incoming == UNKNOWN && le32(route, 12) == 0;
+    }
+    match class(route[12]) {
+        Class::Unicast => true,
+        Class::Edge => le32(route, 12).wrapping_add(1) < 2, // 0 or all ones
+        Class::Other => false,
     }
 }

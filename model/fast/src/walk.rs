@@ -8,16 +8,15 @@ use crate::recent::Seen;
 use crate::response::{mark_full, Onward, Visit};
 use crate::route::{choose, Wanted};
 use crate::sheet::{self, Sheet};
-use crate::table::{BLOCK, FULL_OF_INTERFACES};
+use crate::table::BLOCK;
 
 const SHEET: usize = 2 * BLOCK;
 const MOST_ROUTERS: usize = 32;
 const ANSWER: usize = 16;
 const TO_GROUP: u32 = 102;
 const NOBODY: u32 = 103;
-/// A multiple of what is searched at once.
-const MOST_ADDRESSES: usize = MOST_ROUTERS * 2 * FULL_OF_INTERFACES;
-const AT_ONCE: usize = 8;
+/// Of a yard whose routers have up to so many interfaces the addresses are gathered; as many are compared at once.
+const WIDEST: usize = 8;
 
 /// Where the Query starts, and how it arrives there.
 #[derive(Clone, Copy)]
@@ -41,30 +40,34 @@ impl Queries for Fresh {
 }
 
 /// The addresses of a yard as they lie in memory: a row for each router, each as wide as the widest, filled up with 0, which
-/// nobody sends to.
-struct Addresses {
-    rows: [u32; MOST_ADDRESSES],
+/// nobody sends to. A yard of wider routers is searched where it lies.
+struct Addresses<'a> {
+    rows: &'a [u32; MOST_ROUTERS * WIDEST],
     width: usize,
-    used: usize,
 }
 
-impl Addresses {
-    fn gather(yard: &[u8], width: usize) -> Addresses {
-        let mut rows = [0; MOST_ADDRESSES];
-        for (row, sheet) in rows.chunks_exact_mut(width).zip(yard.chunks_exact(SHEET)) {
-            for (place, address) in row.iter_mut().zip(sheet_of(sheet).addresses()) {
-                *place = address;
+impl<'a> Addresses<'a> {
+    fn gather(yard: &[u8], width: usize, rows: &'a mut [u32; MOST_ROUTERS * WIDEST]) -> Addresses<'a> {
+        if width <= WIDEST {
+            for (row, sheet) in rows.chunks_exact_mut(width).zip(yard.chunks_exact(SHEET)) {
+                for (place, address) in row.iter_mut().zip(sheet_of(sheet).addresses()) {
+                    *place = address;
+                }
             }
         }
-        Addresses { rows, width, used: yard.len() / SHEET * width }
+        Addresses { rows, width }
     }
 
-    /// The lowest router and interface that hold an address. Looked for in several places at once, without an early end.
-    fn holder(&self, address: u32) -> Option<(usize, usize)> {
-        let whole = self.used.next_multiple_of(AT_ONCE);
-        let (chunk, places) = (self.rows[..whole].chunks_exact(AT_ONCE).enumerate())
-            .find(|(_, places)| places.iter().fold(false, |found, place| found | (*place == address)))?;
-        let place = AT_ONCE * chunk + places.iter().position(|place| *place == address)?;
+    /// The lowest router and interface that hold an address: a row of them compared at once, without an early end.
+    fn holder(&self, yard: &[u8], address: u32) -> Option<(usize, usize)> {
+        if self.width > WIDEST {
+            let sheets = yard.chunks_exact(SHEET).map(|sheet| sheet_of(sheet).addresses());
+            return sheets.enumerate().find_map(|(n, mut own)| Some((n, own.position(|other| other == address)?)));
+        }
+        let equal = |place: &u32| *place == address;
+        let (chunk, places) = (self.rows.chunks_exact(WIDEST).enumerate())
+            .find(|(_, places)| places.iter().fold(false, |found, place| found | equal(place)))?;
+        let place = WIDEST * chunk + places.iter().position(equal)?;
         Some((place / self.width, place % self.width))
     }
 }
@@ -80,8 +83,9 @@ pub fn walk(yard: &[u8], times: &[u32], start: Start, output: &mut [u8], answer:
         Ok(width) => width,
         Err(refusal) => return refusal,
     };
-    let addresses = Addresses::gather(yard, width);
-    match (Trip { yard, times, addresses: &addresses }).run(start, output) {
+    let mut rows = [0; MOST_ROUTERS * WIDEST];
+    let addresses = Addresses::gather(yard, width, &mut rows);
+    match (Trip { yard, times, addresses }).run(start, output) {
         Ok(told) => {
             for (place, number) in answer.chunks_exact_mut(4).zip(told) {
                 place.copy_from_slice(&number.to_be_bytes());
@@ -117,7 +121,7 @@ fn check(yard: &[u8], times: &[u32], start: Start) -> Result<usize, u32> {
 struct Trip<'a> {
     yard: &'a [u8],
     times: &'a [u32],
-    addresses: &'a Addresses,
+    addresses: Addresses<'a>,
 }
 
 impl<'a> Trip<'a> {
@@ -160,7 +164,7 @@ impl<'a> Trip<'a> {
         if is_multicast(destination as u8) {
             return Err(TO_GROUP);
         }
-        self.addresses.holder(destination).ok_or(NOBODY)
+        self.addresses.holder(self.yard, destination).ok_or(NOBODY)
     }
 
     /// A later router, which drops nothing: it appends its block to the message in the output.
