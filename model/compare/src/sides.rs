@@ -67,9 +67,20 @@ pub const ONE_PASS: Side = Side {
     walk: |yard, _, start, _, _| (words(yard) ^ words(start.message)) as u32,
 };
 
-/// The sum of all words.
+/// The sum of all words, eight a turn, and of the bytes that are left.
 fn words(bytes: &[u8]) -> u64 {
-    let words = bytes.chunks_exact(8);
-    let rest = words.remainder().iter().fold(0, |sum: u64, byte| sum.wrapping_add(u64::from(*byte)));
-    words.fold(rest, |sum, word| sum.wrapping_add(u64::from_le_bytes(word.try_into().expect("8 bytes"))))
+    let word = |bytes: &[u8]| u64::from_le_bytes(bytes.try_into().expect("8 bytes"));
+    let eights = bytes.chunks_exact(64);
+    let ones = eights.remainder().chunks_exact(8);
+    let mut sum = ones.remainder().iter().fold(0, |sum: u64, byte| sum.wrapping_add(u64::from(*byte)));
+    for one in ones {
+        sum = sum.wrapping_add(word(one));
+    }
+    let mut sums = [sum, 0, 0, 0, 0, 0, 0, 0];
+    for eight in eights {
+        for (sum, one) in sums.iter_mut().zip(eight.chunks_exact(8)) {
+            *sum = sum.wrapping_add(word(one));
+        }
+    }
+    sums.iter().fold(0, |sum, one| sum.wrapping_add(*one))
 }

@@ -34,22 +34,24 @@ impl Call {
     /// So many turns of it, and the last answer. Every turn has the same input: the one thing that a turn may leave changed is
     /// an empty recent list, whose first 10 bytes are put back after every step, by the same code for every side.
     pub fn run(&self, side: &Side, turns: u64) -> u64 {
-        let mut out = [0; 24];
+        let mut lent = Lent { output: [0; 1472], recent: [0; 196], small: [0; 24] };
+        let Lent { output, recent, small } = &mut lent;
         match self {
-            Call::ClockStart(reading) => repeat(turns, || (side.clock_start)(black_box(*reading), &mut out).into()),
+            Call::ClockStart(reading) => repeat(turns, || (side.clock_start)(black_box(*reading), small).into()),
             Call::ClockAdvance(r, y, reading) => {
-                repeat(turns, || (side.clock_advance)(*r, *y, black_box(*reading), &mut out).into())
+                repeat(turns, || (side.clock_advance)(*r, *y, black_box(*reading), small).into())
             }
             Call::ClockUnix(seconds, nanoseconds) => {
                 repeat(turns, || (side.clock_unix)(black_box(*seconds), *nanoseconds))
             }
             Call::ClockArrival(y) => repeat(turns, || (side.clock_arrival)(black_box(*y)).into()),
             Call::Step(step) => {
-                let (mut output, mut record) = (vec![0; step.output], vec![0; step.record]);
-                let mut recent = step.recent.clone();
+                let (output, record) = (&mut output[..step.output], &mut small[..step.record]);
+                let recent = &mut recent[..step.recent.len()];
+                recent.copy_from_slice(&step.recent);
                 repeat(turns, || {
                     let message = black_box(&step.message[..]);
-                    let answer = (side.step)(message, step.arrival, &step.sheet, &mut recent, &mut output, &mut record);
+                    let answer = (side.step)(message, step.arrival, &step.sheet, recent, output, record);
                     if let (Some(now), Some(before)) = (recent.first_chunk_mut::<10>(), step.recent.first_chunk()) {
                         *now = *before;
                     }
@@ -58,14 +60,22 @@ impl Call {
             }
             Call::Walk(walk) => {
                 let Walk { router, receiving, destination, ttl, .. } = *walk;
-                let (mut output, mut answer) = (vec![0; walk.output], vec![0; walk.answer]);
+                let (output, answer) = (&mut output[..walk.output], &mut small[..walk.answer]);
                 repeat(turns, || {
                     let start = Start { message: black_box(&walk.message), router, receiving, destination, ttl };
-                    (side.walk)(&walk.yard, &walk.times, start, &mut output, &mut answer).into()
+                    (side.walk)(&walk.yard, &walk.times, start, output, answer).into()
                 })
             }
         }
     }
+}
+
+/// What is lent to be written, always at the same place of a line of the cache, so that a copy into it takes the same steps.
+#[repr(align(64))]
+struct Lent {
+    output: [u8; 1472],
+    recent: [u8; 196],
+    small: [u8; 24],
 }
 
 #[inline(always)]

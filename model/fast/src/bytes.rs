@@ -105,7 +105,7 @@ pub fn is_link_scoped(address: u32) -> bool {
 /// Whether two addresses agree in so many bits, at most 32.
 #[inline(always)]
 pub fn agree(one: u32, other: u32, bits: u8) -> bool {
-    (one ^ other).leading_zeros() >= u32::from(bits)
+    u64::from(one ^ other) << bits <= u64::from(u32::MAX)
 }
 
 /// Whether all these 8-byte words are 0: an OR of eight a turn without an early end, then what is left of them one by one.

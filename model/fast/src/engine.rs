@@ -3,7 +3,7 @@
 use crate::bytes::{be32, field, is_link_scoped, le32, part, part_mut, put};
 use crate::message::{self, Message, HEADER, MOST, REPLY, REQUEST, STANDARD};
 use crate::recent::{self, Seen};
-use crate::response::{mark_full, Onward, Visit};
+use crate::response::{mark_full, Onward, Visit, Way};
 use crate::route::{choose, is_last_hop, Wanted};
 use crate::sheet::{self, Sheet};
 use crate::table::{Interface, UNKNOWN};
@@ -117,6 +117,7 @@ pub(crate) fn answer<'a>(
     if message.is_query() {
         queries.enter(recent::entry_of(message.header));
     }
+    let route = route.map(|route| Way::by(&sheet, route));
     let visit = Visit { sheet, receiving, interface, route, wrong_last_hop, time: arrival.time };
     Ok(send_longer(bytes, &message, &visit, output))
 }
@@ -164,7 +165,7 @@ fn write_record(sent: &Sent, header: &[u8; HEADER], record: &mut [u8; RECORD]) -
         Some(onward) => {
             put(record, 2, onward.destination.to_le_bytes());
             put(record, 6, PORT.to_be_bytes());
-            put(record, 8, onward.incoming.to_be_bytes());
+            put(record, 8, onward.incoming);
             put(record, 10, field::<4>(onward.interface, 0));
         }
         None => {

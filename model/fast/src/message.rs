@@ -84,18 +84,19 @@ fn check_header(header: &[u8; HEADER]) -> Result<(), u32> {
 #[inline(always)]
 fn blocks(message: &[u8]) -> Option<(usize, usize)> {
     let mut rest = &message[HEADER..];
-    let (mut standards, mut last) = (0, 0);
+    let (mut standards, mut left_at_last) = (0, 0);
     while !rest.is_empty() {
-        let length = if is_standard(rest) {
+        if is_standard(rest) {
             standards += 1;
-            last = message.len() - rest.len();
-            STANDARD
+            left_at_last = rest.len();
+            rest = &rest[STANDARD..];
+        } else if standards > 0 {
+            rest = &rest[augmented(rest)?..];
         } else {
-            augmented(rest).filter(|_| standards > 0)?
-        };
-        rest = &rest[length..];
+            return None;
+        }
     }
-    (standards > 0).then_some((standards, last))
+    (standards > 0).then_some((standards, message.len() - left_at_last))
 }
 
 #[inline(always)]
@@ -103,7 +104,8 @@ fn is_standard(rest: &[u8]) -> bool {
     rest.len() >= STANDARD && le32(rest, 0) & TYPE_AND_LENGTH == STANDARD_HEAD
 }
 
-/// The length of the Augmented block that begins here.
+/// The length of the Augmented block that begins here. There are few of them.
+#[inline(never)]
 fn augmented(rest: &[u8]) -> Option<usize> {
     let head = rest.first_chunk::<3>()?;
     let length = usize::from(be16(head, 1));

@@ -25,16 +25,32 @@ pub struct Visit<'a> {
     pub receiving: usize,
     /// The receiving interface.
     pub interface: &'a Interface,
-    pub route: Option<&'a Route>,
+    pub route: Option<Way<'a>>,
     pub wrong_last_hop: bool,
     pub time: u32,
 }
 
-/// Where a Request goes next: the address as it lies in memory, and the interface to send on.
+/// The route chosen, and the interface that it names, if it names one.
+#[derive(Clone, Copy)]
+pub struct Way<'a> {
+    pub route: &'a Route,
+    incoming: Option<&'a Interface>,
+}
+
+impl<'a> Way<'a> {
+    #[inline(always)]
+    pub fn by(sheet: &Sheet<'a>, route: &'a Route) -> Way<'a> {
+        let number = be16(route, 16);
+        let incoming = if number == UNKNOWN { None } else { Some(sheet.interface(usize::from(number))) };
+        Way { route, incoming }
+    }
+}
+
+/// Where a Request goes next: the address and the number of the interface to send on, as they lie in memory.
 #[derive(Clone, Copy)]
 pub struct Onward<'a> {
     pub destination: u32,
-    pub incoming: u16,
+    pub incoming: [u8; 2],
     pub interface: &'a Interface,
 }
 
@@ -49,7 +65,7 @@ impl<'a> Visit<'a> {
         put(block, 12, field::<4>(self.interface, 0));
         put(block, 28, field::<8>(self.interface, 16));
         match self.route {
-            Some(route) if !self.sheet.is_prohibited() => self.fill(block, route),
+            Some(way) if !self.sheet.is_prohibited() => fill(block, way),
             _ => {
                 put(block, 8, [0; 4]);
                 put(block, 16, [0; 12]);
@@ -61,33 +77,10 @@ impl<'a> Visit<'a> {
         block[51] = code;
     }
 
-    /// What the route tells, most of it carried over as it lies.
-    #[inline(always)]
-    fn fill(&self, block: &mut [u8], route: &Route) {
-        let (address, input) = match be16(route, 16) {
-            UNKNOWN => ([0; 4], [0xff; 8]),
-            number => {
-                let incoming = self.sheet.interface(usize::from(number));
-                (field(incoming, 0), field(incoming, 8))
-            }
-        };
-        let (kind, length) = (route[0], route[1]);
-        put(block, 8, address);
-        put(block, 16, upstream(route).to_le_bytes());
-        put(block, 20, input);
-        put(block, 36, if kind == 3 { [0xff; 8] } else { field::<8>(route, 24) });
-        put(block, 44, field::<4>(route, 18));
-        block[50] = match kind {
-            2 => 0xff,
-            1 if length < 32 => 0x80 | length,
-            _ => length,
-        };
-    }
-
     /// The first forwarding code that applies.
     #[inline(always)]
     fn code(&self, group_octet: u8) -> u8 {
-        let Some(route) = self.route else {
+        let Some(Way { route, incoming }) = self.route else {
             return if self.wrong_last_hop { WRONG_LAST_HOP } else { NO_ROUTE };
         };
         let receiving = (1_u64 << self.receiving).swap_bytes(); // its bit in a map as it lies
@@ -103,7 +96,7 @@ impl<'a> Visit<'a> {
             9
         } else if le64(route, 32) & receiving == 0 {
             1
-        } else if group_octet == SCOPED && self.has_boundary(route) {
+        } else if group_octet == SCOPED && (is_boundary(self.interface) || incoming.is_some_and(is_boundary)) {
             4
         } else if route[2] & PRUNE_SENT != 0 {
             2
@@ -116,23 +109,36 @@ impl<'a> Visit<'a> {
         }
     }
 
-    /// Whether the receiving or the incoming interface is a boundary.
-    fn has_boundary(&self, route: &Route) -> bool {
-        let incoming = be16(route, 16);
-        let there = incoming != UNKNOWN && self.sheet.interface(usize::from(incoming))[5] & BOUNDARY != 0;
-        self.interface[5] & BOUNDARY != 0 || there
-    }
-
     /// Where the message goes next; None ends the trace.
     #[inline(always)]
     pub fn onward(&self, hops_used: bool) -> Option<Onward<'a>> {
-        let route = self.route?;
+        let Way { route, incoming } = self.route?;
         if hops_used || is_rp(route) || le32(route, 12) == 0 || self.sheet.is_prohibited() {
             return None;
         }
-        let incoming = be16(route, 16);
-        Some(Onward { destination: upstream(route), incoming, interface: self.sheet.interface(usize::from(incoming)) })
+        Some(Onward { destination: upstream(route), incoming: field(route, 16), interface: incoming? })
     }
+}
+
+fn is_boundary(interface: &Interface) -> bool {
+    interface[5] & BOUNDARY != 0
+}
+
+/// What the route tells, most of it carried over as it lies.
+#[inline(always)]
+fn fill(block: &mut [u8], Way { route, incoming }: Way) {
+    let (address, input) = incoming.map_or(([0; 4], [0xff; 8]), |interface| (field(interface, 0), field(interface, 8)));
+    let (kind, length) = (route[0], route[1]);
+    put(block, 8, address);
+    put(block, 16, upstream(route).to_le_bytes());
+    put(block, 20, input);
+    put(block, 36, if kind == 3 { [0xff; 8] } else { field::<8>(route, 24) });
+    put(block, 44, field::<4>(route, 18));
+    block[50] = match kind {
+        2 => 0xff,
+        1 if length < 32 => 0x80 | length,
+        _ => length,
+    };
 }
 
 /// Upstream as it is shown and sent to.

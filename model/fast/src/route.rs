@@ -2,7 +2,7 @@
 
 use crate::bytes::{agree, be32, be64, le32, part, ALL_ONES};
 use crate::sheet::Sheet;
-use crate::table::{entries, Route, BLOCK};
+use crate::table::{Route, BLOCK, ENTRIES, FULL_OF_ROUTES, ROUTE};
 
 const RP: u8 = 1;
 
@@ -13,20 +13,25 @@ pub struct Wanted {
     pub source: u32,
 }
 
-/// The route of the highest rank, and of equal ones the first.
-#[inline]
+/// By kind, the rank of a length of 0: kind 1 comes before kind 2, and that before kind 3; of kinds 1 and 3 the longer before
+/// the shorter.
+const RANKS: [u32; 4] = [0, 65, 64, 1];
+
+/// The route of the highest rank that serves, and of equal ones the first.
+#[inline(always)]
 pub fn choose<'a>(sheet: &Sheet<'a>, wanted: Wanted) -> Option<&'a Route> {
     let mut chosen = None;
     let mut highest = 0;
     for block in sheet.route_blocks.chunks_exact(BLOCK) {
-        for route in entries(part(block, 0), usize::from(block[1])) {
+        let block: &[u8; BLOCK] = part(block, 0);
+        for number in 0..usize::from(block[1]).min(FULL_OF_ROUTES) {
+            let route: &Route = part(block, ENTRIES + ROUTE * number);
             // in a valid sheet a group of 0 is kind 3, and any other is kind 1 or 2; most are neither ours nor 0
             let group = le32(route, 8);
             if group == wanted.group || group == 0 {
-                let rank = rank(route, wanted.source);
-                if rank > highest {
-                    highest = rank;
-                    chosen = Some(route);
+                let rank = RANKS[usize::from(route[0] & 3)] + u32::from(route[1]);
+                if rank > highest && serves(route, wanted.source) {
+                    (highest, chosen) = (rank, Some(route));
                 }
             }
         }
@@ -34,18 +39,10 @@ pub fn choose<'a>(sheet: &Sheet<'a>, wanted: Wanted) -> Option<&'a Route> {
     chosen
 }
 
-/// 0 where a route of our group, or of none, does not serve the source. Kind 1 comes before kind 2, and that before kind 3; of
-/// kinds 1 and 3 the longer before the shorter.
+/// Whether a route of our group, or of none, serves the source; kind 2 has a length of 0, with which every source agrees.
 #[inline(always)]
-fn rank(route: &Route, source: u32) -> u32 {
-    let (kind, length) = (route[0], route[1]);
-    if kind == 2 {
-        return 64;
-    }
-    if source == ALL_ONES || !agree(source, be32(route, 4), length) {
-        return 0;
-    }
-    u32::from(length) + if kind == 1 { 65 } else { 1 }
+fn serves(route: &Route, source: u32) -> bool {
+    agree(source, be32(route, 4), route[1]) && (source != ALL_ONES || route[0] == 2)
 }
 
 pub fn is_rp(route: &Route) -> bool {

@@ -64,7 +64,7 @@ fn used(block: &[u8; BLOCK], kind: u8, full: usize, place: usize) -> Option<usiz
 
 /// The entries in use, each of N bytes. A compiler sees by `zip` that they are inside.
 #[inline(always)]
-pub fn entries<const N: usize>(block: &[u8; BLOCK], used: usize) -> impl Iterator<Item = &[u8; N]> {
+fn entries<const N: usize>(block: &[u8; BLOCK], used: usize) -> impl Iterator<Item = &[u8; N]> {
     block[ENTRIES..SWITCHES].chunks_exact(N).zip(0..used).map(|(entry, _)| part(entry, 0))
 }
 

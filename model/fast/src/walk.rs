@@ -5,7 +5,7 @@ use crate::bytes::{be32, is_multicast, le32, part};
 use crate::engine::{self, Arrival, Queries, REPLIED};
 use crate::message::{HEADER, MOST, REPLY, REQUEST, STANDARD};
 use crate::recent::Seen;
-use crate::response::{mark_full, Onward, Visit};
+use crate::response::{mark_full, Onward, Visit, Way};
 use crate::route::{choose, Wanted};
 use crate::sheet::{self, Sheet};
 use crate::table::BLOCK;
@@ -172,7 +172,8 @@ impl<'a> Trip<'a> {
     fn visit(&self, router: usize, receiving: usize, output: &mut [u8; MOST], length: usize) -> Option<Onward<'a>> {
         let sheet = self.sheet(router);
         let wanted = Wanted { group: le32(output, 4), source: be32(output, 8) };
-        let (route, interface) = (choose(&sheet, wanted), sheet.interface(receiving));
+        let route = choose(&sheet, wanted).map(|route| Way::by(&sheet, route));
+        let interface = sheet.interface(receiving);
         let visit = Visit { sheet, receiving, interface, route, wrong_last_hop: false, time: self.times[router] };
         visit.append(output, length);
         let blocks = (length - HEADER) / STANDARD + 1;

@@ -78,11 +78,13 @@ pub extern "C" fn bench_mark() {
     io::stderr().write_all(line.as_bytes()).unwrap_or_else(|error| fail(&error.to_string()));
 }
 
-/// Three marks to each call and side: before few turns, between them and many, and behind.
+/// Three marks to each call and side: before few turns, between them and many, and behind. A turn goes before, so that nothing
+/// is done for the first time behind a mark.
 fn run(works: &[Work], few: u64, many: u64) {
     for work in works {
         for side in &MEASURED {
             for call in calls(work) {
+                call.run(side, 1);
                 bench_mark();
                 call.run(side, few);
                 bench_mark();
