@@ -3,6 +3,7 @@
 use crate::cases::Step;
 use crate::sides::Side;
 use crate::yards::Walk;
+use fast::alone;
 use fast::engine::Arrival;
 use fast::walk::Start;
 use model::build::{ip, mend_all, standard, Header, InterfaceEntry, RouteEntry, SheetPlan};
@@ -24,11 +25,17 @@ pub enum Call {
     ClockArrival(u64),
     Step(Step),
     Walk(Walk),
+    /// A part of a step by itself, which `fast` alone can show.
+    CheckSheet(Vec<u8>),
+    ChooseRoute(Vec<u8>),
+    CheckRecent([u8; 196]),
+    SearchRecent([u8; 196]),
 }
 
 impl Call {
     pub fn is_of_the_clock(&self) -> bool {
-        !matches!(self, Call::Step(_) | Call::Walk(_))
+        use Call::{ClockAdvance, ClockArrival, ClockStart, ClockUnix};
+        matches!(self, ClockStart(_) | ClockAdvance(..) | ClockUnix(..) | ClockArrival(_))
     }
 
     /// So many turns of it, and the last answer. Every turn has the same input: the one thing that a turn may leave changed is
@@ -66,6 +73,13 @@ impl Call {
                     (side.walk)(&walk.yard, &walk.times, start, output, answer).into()
                 })
             }
+            Call::CheckSheet(sheet) => repeat(turns, || alone::check_sheet(black_box(sheet)).is_some().into()),
+            Call::ChooseRoute(sheet) => match alone::check_sheet(sheet) {
+                Some(sheet) => repeat(turns, || alone::choose_route(&sheet, black_box(SOURCE), GROUP).into()),
+                None => 0,
+            },
+            Call::CheckRecent(list) => repeat(turns, || alone::check_recent(black_box(list)).into()),
+            Call::SearchRecent(list) => repeat(turns, || (!alone::search_recent(black_box(list), [0; 6])).into()),
         }
     }
 }
@@ -164,11 +178,17 @@ fn wrong_at(mut sheet: Vec<u8>, block: usize) -> Vec<u8> {
 
 // ---- the works ------------------------------------------------------------------------------------------
 
-/// A step that is dropped by 4, behind the sheet's check, less one that is dropped by 3 for a sheet without a byte: what is
-/// left is the check of the sheet.
+/// Dropped by 2 for the first bytes of a full list, which has nothing else to be checked, and handed no sheet.
+fn by_2() -> Call {
+    let mut list = recent(32);
+    list[1] = 255;
+    Call::Step(Step { recent: list, ..step(message(0), Vec::new()) })
+}
+
+/// A step with a full list that is dropped by 4, behind the sheet's check, less one that is dropped by 2, before it.
 fn checking(name: &str, sheet: Vec<u8>) -> Work {
-    let beyond = arriving(step(message(0), sheet), |arrival| arrival.receiving = 64);
-    Work::new(format!("sheet check, {name}"), Call::Step(beyond), 4).less(Call::Step(step(message(0), Vec::new())), 3)
+    let by_4 = arriving(Step { recent: recent(32), ..step(message(0), sheet) }, |arrival| arrival.receiving = 64);
+    Work::new(format!("sheet check, {name}"), Call::Step(by_4), 4).less(by_2(), 2)
 }
 
 fn checks() -> Vec<Work> {
@@ -232,30 +252,26 @@ fn choices() -> Vec<Work> {
     works
 }
 
-/// The check: a step that is dropped by 2 for what is last looked at in the list less one dropped by 2 for a list without a
-/// byte. The search: rows 14 to 18 as in [`choosing`], without routes, less the same with an empty list.
+/// The check of a full list, of which only the first bytes are checked: a step that is dropped by 2 for them less one that is
+/// dropped by 2 for a list without a byte. Of other lists what more they cost comes to it, in steps that are dropped by 3
+/// for a sheet without a byte. The search: rows 14 to 18 as in [`choosing`], without routes, less the same with an empty list.
 fn lists() -> Vec<Work> {
     let without_sheet = |recent| Call::Step(Step { recent, ..step(message(0), Vec::new()) });
-    let wrong = |count| {
-        let mut list = recent(count);
-        // the last byte, or next where every byte is in use
-        list[if count == 32 { 1 } else { 195 }] = 255;
-        without_sheet(list)
-    };
-    let by_18 = |count| Call::Step(Step { recent: recent(count), ..from_elsewhere(sheet(2, Vec::new())) });
+    let by_18 = |count| Step { recent: recent(count), ..from_elsewhere(sheet(2, Vec::new())) };
     let by_13 = |count| {
-        let mut step = Step { recent: recent(count), ..from_elsewhere(sheet(2, Vec::new())) };
+        let mut step = by_18(count);
         step.message.push(0);
         Call::Step(step)
     };
     let mut works = Vec::new();
     for (name, count) in [("empty", 0), ("half full", 16), ("full", 32)] {
-        let work = Work::new(format!("recent list, {name}: checked"), wrong(count), 2);
-        works.push(work.less(without_sheet(Vec::new()), 2));
+        let full = Work::new(format!("recent list, {name}: checked"), by_2(), 2).less(without_sheet(Vec::new()), 2);
+        works.push(full.and(without_sheet(recent(count)), 3).less(without_sheet(recent(32)), 3));
     }
     for (name, count) in [("half full", 16), ("full", 32)] {
-        let work = Work::new(format!("recent list, {name}: searched, beyond an empty one"), by_18(count), 18);
-        works.push(work.less(by_13(count), 13).less(by_18(0), 18).and(by_13(0), 13));
+        let work =
+            Work::new(format!("recent list, {name}: searched, beyond an empty one"), Call::Step(by_18(count)), 18);
+        works.push(work.less(by_13(count), 13).less(Call::Step(by_18(0)), 18).and(by_13(0), 13));
     }
     works
 }
@@ -357,9 +373,27 @@ fn walks() -> Vec<Work> {
     ]
 }
 
+/// What every side does.
 pub fn all() -> Vec<Work> {
-    [checks(), steps(), choices(), lists(), early_drops(), late_drops(), walks(), clocks()]
-        .into_iter()
-        .flatten()
-        .collect()
+    let works = [checks(), steps(), choices(), lists(), early_drops(), late_drops(), walks(), clocks()];
+    works.into_iter().flatten().collect()
+}
+
+/// Parts of a step that `fast` shows by themselves: the differences of calls above should come near them.
+pub fn parts() -> Vec<Work> {
+    let list = |count| recent(count).try_into().expect("196 bytes");
+    let mut works = Vec::new();
+    for (name, sheet) in
+        [("1 block (20 interfaces)", sheet(20, Vec::new())), ("2 blocks", blocks(2)), ("16 blocks", blocks(16))]
+    {
+        works.push(Work::new(format!("sheet check, {name}"), Call::CheckSheet(sheet), 1));
+    }
+    for count in [1, 9, 45, 135] {
+        works.push(Work::new(format!("route choice, {count} routes"), Call::ChooseRoute(sheet(2, groups(count))), 1));
+    }
+    for (name, count) in [("empty", 0), ("half full", 16), ("full", 32)] {
+        works.push(Work::new(format!("recent list, {name}: checked"), Call::CheckRecent(list(count)), 1));
+        works.push(Work::new(format!("recent list, {name}: searched"), Call::SearchRecent(list(count)), 1));
+    }
+    works
 }

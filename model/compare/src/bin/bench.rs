@@ -5,17 +5,20 @@
 //!     bench times                    nanoseconds a call, best of nine rounds
 //!     bench run FEW MANY             what is counted: every call so many turns, with marks between
 //!
-//! Each prints one table. Instructions are the difference of many turns and few, so that all that comes before drops out; a
-//! count has the call itself in it, and the loop round it, some 20 instructions that are the same for every side.
+//! Each prints a table of what all do, and a small one of what `fast` shows by itself. Instructions are the difference of many
+//! turns and few, so that all that comes before drops out. A count has the call itself in it, and the turn of the loop round
+//! it, up to 30 instructions that are the same for every side; where calls are taken off from others they drop out.
 
 use compare::sides::{Side, FAST, LIBRARY, MODEL, ONE_PASS};
-use compare::work::{all, Call, Work};
+use compare::work::{all, parts, Call, Work};
 use std::io::{BufRead, BufReader, Write};
 use std::process::{exit, Command, Stdio};
 use std::time::Instant;
 use std::{env, fs, io};
 
+/// The columns of the first table, and the one of the second.
 const MEASURED: [Side; 4] = [LIBRARY, FAST, MODEL, ONE_PASS];
+const ALONE: [Side; 1] = [FAST];
 const MARK: &str = "mark";
 
 fn fail(why: &str) -> ! {
@@ -34,12 +37,24 @@ fn total(work: &Work, measured: &[f64]) -> f64 {
     calls.iter().sum::<f64>() - less.iter().sum::<f64>()
 }
 
+/// The calls that are measured, each by its side, in the order of both tables.
+fn measured<'a>(works: &'a [Work], parts: &'a [Work]) -> impl Iterator<Item = (Side, &'a Call)> {
+    let each = |work: &'a Work, sides: &'static [Side]| {
+        sides.iter().flat_map(move |side| calls(work).map(|call| (*side, call)))
+    };
+    let of_works = works.iter().flat_map(move |work| each(work, &MEASURED));
+    of_works.chain(parts.iter().flat_map(move |work| each(work, &ALONE)))
+}
+
 /// Before anything is measured: every side gives the answer that is meant.
-fn check(works: &[Work]) {
+fn check(works: &[Work], sides: &[Side]) {
     for work in works {
         for (call, answer) in work.calls.iter().chain(&work.less) {
-            for side in [LIBRARY, FAST, MODEL] {
-                let given = call.run(&side, 2);
+            for side in sides {
+                if side.name == ONE_PASS.name {
+                    continue;
+                }
+                let given = call.run(side, 2);
                 if given != *answer {
                     fail(&format!("{}: {} answers {given} and not {answer}", work.name, side.name));
                 }
@@ -80,18 +95,14 @@ pub extern "C" fn bench_mark() {
 
 /// Three marks to each call and side: before few turns, between them and many, and behind. A turn goes before, so that nothing
 /// is done for the first time behind a mark.
-fn run(works: &[Work], few: u64, many: u64) {
-    for work in works {
-        for side in &MEASURED {
-            for call in calls(work) {
-                call.run(side, 1);
-                bench_mark();
-                call.run(side, few);
-                bench_mark();
-                call.run(side, many);
-                bench_mark();
-            }
-        }
+fn run<'a>(measured: impl Iterator<Item = (Side, &'a Call)>, few: u64, many: u64) {
+    for (side, call) in measured {
+        call.run(&side, 1);
+        bench_mark();
+        call.run(&side, few);
+        bench_mark();
+        call.run(&side, many);
+        bench_mark();
     }
 }
 
@@ -171,23 +182,28 @@ fn lines_between_marks(mut log: impl BufRead) -> io::Result<Vec<u64>> {
     Ok(parts)
 }
 
-// ---- the table ------------------------------------------------------------------------------------------
+// ---- the tables -----------------------------------------------------------------------------------------
 
-/// One line a work; `measured` has what each call takes, by each side.
-fn print(works: &[Work], unit: &str, measured: &[f64]) {
+/// One line a work; `taken` has what each call takes, by each side.
+fn print(works: &[Work], parts: &[Work], unit: &str, taken: &[f64]) {
+    let mut rest = taken;
+    let mut next = |work: &Work| {
+        let (own, behind) = rest.split_at(calls(work).count());
+        rest = behind;
+        total(work, own)
+    };
     println!("| work, {unit} | library | fast | model | library / fast | {} |", ONE_PASS.name);
     println!("|---|---|---|---|---|---|");
-    let mut rest = measured;
     for work in works {
-        let [library, fast, model, pass] = MEASURED.map(|_| {
-            let (own, behind) = rest.split_at(calls(work).count());
-            rest = behind;
-            total(work, own)
-        });
+        let [library, fast, model, pass] = MEASURED.map(|_| next(work));
         // of a clock there are no bytes, and a difference of calls may have none of its own
-        let floor =
-            if pass < 1.0 || calls(work).any(Call::is_of_the_clock) { "-".to_string() } else { format!("{pass:.0}") };
-        println!("| {} | {library:.0} | {fast:.0} | {model:.0} | {:.2} | {floor} |", work.name, library / fast);
+        let no_bytes = pass < 1.0 || calls(work).any(Call::is_of_the_clock);
+        let pass = if no_bytes { "-".to_string() } else { format!("{pass:.0}") };
+        println!("| {} | {library:.0} | {fast:.0} | {model:.0} | {:.2} | {pass} |", work.name, library / fast);
+    }
+    println!("\n| part of a step by itself, {unit} | fast |\n|---|---|");
+    for part in parts {
+        println!("| {} | {:.0} |", part.name, next(part));
     }
 }
 
@@ -195,26 +211,19 @@ fn main() {
     let words: Vec<String> = env::args().collect();
     let (program, words) = words.split_first().unwrap_or_else(|| fail("the program has no name"));
     let words: Vec<&str> = words.iter().map(String::as_str).collect();
-    let works = all();
-    let count = MEASURED.len() * works.iter().map(|work| calls(work).count()).sum::<usize>();
-    let counted = |counted: Counted| print(&works, "instructions", &counted.a_call(count));
+    let (works, parts) = (all(), parts());
+    let tell = |unit: &str, take: &dyn Fn() -> Vec<f64>| {
+        check(&works, &MEASURED);
+        check(&parts, &ALONE);
+        print(&works, &parts, unit, &take());
+    };
+    let count = measured(&works, &parts).count();
     match words[..] {
-        ["times"] => {
-            check(&works);
-            let each =
-                |work| MEASURED.iter().flat_map(move |side| calls(work).map(move |call| best_of_nine(call, side)));
-            print(&works, "ns", &works.iter().flat_map(each).collect::<Vec<_>>());
-        }
-        ["instructions"] => {
-            check(&works);
-            counted(Counted::by_callgrind(program));
-        }
-        ["instructions", "emulated"] => {
-            check(&works);
-            counted(Counted::by_emulator(program));
-        }
+        ["times"] => tell("ns", &|| measured(&works, &parts).map(|(side, call)| best_of_nine(call, &side)).collect()),
+        ["instructions"] => tell("instructions", &|| Counted::by_callgrind(program).a_call(count)),
+        ["instructions", "emulated"] => tell("instructions", &|| Counted::by_emulator(program).a_call(count)),
         ["run", few, many] => match (few.parse(), many.parse()) {
-            (Ok(few), Ok(many)) => run(&works, few, many),
+            (Ok(few), Ok(many)) => run(measured(&works, &parts), few, many),
             _ => fail("run takes two numbers of turns"),
         },
         _ => {
