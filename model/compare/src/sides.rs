@@ -12,11 +12,14 @@ pub struct Side {
     pub clock_advance: fn(u64, u64, u64, &mut [u8]) -> u32,
     pub clock_unix: fn(u64, u64) -> u64,
     pub clock_arrival: fn(u64) -> u32,
-    /// Message, arrival, sheet, recent list, output, record.
-    pub step: fn(&[u8], Arrival, &[u8], &mut [u8], &mut [u8], &mut [u8]) -> u32,
-    /// Yard, times, start, output, answer.
-    pub walk: fn(&[u8], &[u32], Start, &mut [u8], &mut [u8]) -> u32,
+    pub step: Step,
+    pub walk: Walk,
 }
+
+/// Message, arrival, sheet, recent list, output, record.
+type Step = fn(&[u8], Arrival, &[u8], &mut [u8], &mut [u8], &mut [u8]) -> u32;
+/// Yard, times, start, output, answer.
+type Walk = fn(&[u8], &[u32], Start, &mut [u8], &mut [u8]) -> u32;
 
 pub const LIBRARY: Side = Side {
     name: "library",

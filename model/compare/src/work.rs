@@ -302,7 +302,7 @@ fn late_drops() -> Vec<Work> {
     let with = |message: Vec<u8>| step(message, blocks(2));
     let right = header(1);
     let request = || with(message(10));
-    let mut garbage: Vec<u8> = (0..1472_u32).map(|n| (n * n >> 3) as u8).collect();
+    let mut garbage: Vec<u8> = (0..1472_u32).map(|n| ((n * n) >> 3) as u8).collect();
     garbage[0] = 0x47;
     let mut seen = Recent::default();
     seen.enter(Entry { client: right.client, id: right.id });

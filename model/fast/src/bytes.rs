@@ -125,3 +125,32 @@ pub fn all_zero(words: &[u8]) -> bool {
     }
     bits.iter().fold(0, |all, bits| all | bits) == 0
 }
+
+#[cfg(test)]
+mod tests {
+    use super::*;
+
+    #[test]
+    fn classes_at_their_edges() {
+        let octets = |class: fn(u8) -> bool| (0..=255).filter(|octet| class(*octet)).collect::<Vec<u8>>();
+        assert_eq!(octets(is_unicast), (1..127).chain(128..224).collect::<Vec<_>>());
+        assert_eq!(octets(is_multicast), (224..240).collect::<Vec<_>>());
+        assert_eq!(octets(|octet| class(octet) == Class::Edge), [0, 255]);
+    }
+
+    #[test]
+    fn prefixes() {
+        assert!(agree(0, ALL_ONES, 0) && !agree(0, 1 << 31, 1));
+        assert!(agree(2, 3, 31) && !agree(2, 3, 32) && agree(3, 3, 32));
+    }
+
+    #[test]
+    fn every_byte_of_words_counts() {
+        let mut words = [0; 200];
+        for (at, length) in (0..200).flat_map(|at| [(at, 200), (at, 128), (at, 64)]) {
+            words[at] = 1;
+            assert_eq!(all_zero(&words[..length]), at >= length);
+            words[at] = 0;
+        }
+    }
+}

@@ -56,3 +56,38 @@ pub fn enter(list: &mut [u8; SIZE], Seen(entry): Seen) {
 pub fn entry_of(header: &[u8; 20]) -> Seen {
     Seen(field(header, 12))
 }
+
+#[cfg(test)]
+mod tests {
+    use super::*;
+
+    fn seen(n: u8) -> Seen {
+        Seen([10, 0, 0, n, 0, n])
+    }
+
+    #[test]
+    fn forty_entered() {
+        let mut list = [0; SIZE];
+        for n in 1..=40 {
+            assert!(is_well_formed(&list) && !has(&list, seen(n)));
+            enter(&mut list, seen(n));
+            assert!(has(&list, seen(n)));
+        }
+        assert_eq!(list[..4], [32, 8, 0, 0]);
+        assert!(!has(&list, seen(8)) && has(&list, seen(9)));
+    }
+
+    #[test]
+    fn every_byte_behind_the_used_ones_is_zero() {
+        for used in 0..32 {
+            let mut list = [0; SIZE];
+            (0..used).for_each(|n| enter(&mut list, seen(n)));
+            for at in 2..SIZE {
+                let before = list[at];
+                list[at] = 1;
+                assert_eq!(is_well_formed(&list), (4..4 + ENTRY * usize::from(used)).contains(&at));
+                list[at] = before;
+            }
+        }
+    }
+}

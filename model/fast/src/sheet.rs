@@ -18,7 +18,7 @@ pub struct Sheet<'a> {
 }
 
 pub fn check(bytes: &[u8]) -> Option<Sheet<'_>> {
-    if bytes.len() % BLOCK != 0 || bytes.len() > MOST_BLOCKS * BLOCK {
+    if !bytes.chunks_exact(BLOCK).remainder().is_empty() || bytes.len() > MOST_BLOCKS * BLOCK {
         return None;
     }
     let of_interfaces = bytes.chunks_exact(BLOCK).take_while(|block| block[0] == INTERFACES).count();

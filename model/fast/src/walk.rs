@@ -99,7 +99,7 @@ pub fn walk(yard: &[u8], times: &[u32], start: Start, output: &mut [u8], answer:
 /// The most interfaces that a router of the yard has, or the first refusal.
 fn check(yard: &[u8], times: &[u32], start: Start) -> Result<usize, u32> {
     let routers = yard.len() / SHEET;
-    if yard.len() % SHEET != 0 || routers.wrapping_sub(1) >= MOST_ROUTERS {
+    if !yard.chunks_exact(SHEET).remainder().is_empty() || routers.wrapping_sub(1) >= MOST_ROUTERS {
         return Err(21);
     }
     let mut width = 0;
