@@ -38,41 +38,21 @@ impl Call {
         matches!(self, ClockStart(_) | ClockAdvance(..) | ClockUnix(..) | ClockArrival(_))
     }
 
-    /// So many turns of it, and the last answer. Every turn has the same input: the one thing that a turn may leave changed is
-    /// an empty recent list, whose first 10 bytes are put back after every step, by the same code for every side.
+    /// So many turns of it, each with the same input, and the last answer.
     pub fn run(&self, side: &Side, turns: u64) -> u64 {
         let mut lent = Lent { output: [0; 1472], recent: [0; 196], small: [0; 24] };
-        let Lent { output, recent, small } = &mut lent;
+        let out = &mut lent.small;
         match self {
-            Call::ClockStart(reading) => repeat(turns, || (side.clock_start)(black_box(*reading), small).into()),
+            Call::ClockStart(reading) => repeat(turns, || (side.clock_start)(black_box(*reading), out).into()),
             Call::ClockAdvance(r, y, reading) => {
-                repeat(turns, || (side.clock_advance)(*r, *y, black_box(*reading), small).into())
+                repeat(turns, || (side.clock_advance)(*r, *y, black_box(*reading), out).into())
             }
             Call::ClockUnix(seconds, nanoseconds) => {
                 repeat(turns, || (side.clock_unix)(black_box(*seconds), *nanoseconds))
             }
             Call::ClockArrival(y) => repeat(turns, || (side.clock_arrival)(black_box(*y)).into()),
-            Call::Step(step) => {
-                let (output, record) = (&mut output[..step.output], &mut small[..step.record]);
-                let recent = &mut recent[..step.recent.len()];
-                recent.copy_from_slice(&step.recent);
-                repeat(turns, || {
-                    let message = black_box(&step.message[..]);
-                    let answer = (side.step)(message, step.arrival, &step.sheet, recent, output, record);
-                    if let (Some(now), Some(before)) = (recent.first_chunk_mut::<10>(), step.recent.first_chunk()) {
-                        *now = *before;
-                    }
-                    answer.into()
-                })
-            }
-            Call::Walk(walk) => {
-                let Walk { router, receiving, destination, ttl, .. } = *walk;
-                let (output, answer) = (&mut output[..walk.output], &mut small[..walk.answer]);
-                repeat(turns, || {
-                    let start = Start { message: black_box(&walk.message), router, receiving, destination, ttl };
-                    (side.walk)(&walk.yard, &walk.times, start, output, answer).into()
-                })
-            }
+            Call::Step(step) => lent.step(step, side, turns),
+            Call::Walk(walk) => lent.walk(walk, side, turns),
             Call::CheckSheet(sheet) => repeat(turns, || alone::check_sheet(black_box(sheet)).is_some().into()),
             Call::ChooseRoute(sheet) => match alone::check_sheet(sheet) {
                 Some(sheet) => repeat(turns, || alone::choose_route(&sheet, black_box(SOURCE), GROUP).into()),
@@ -90,6 +70,33 @@ struct Lent {
     output: [u8; 1472],
     recent: [u8; 196],
     small: [u8; 24],
+}
+
+impl Lent {
+    /// The one thing that a turn may leave changed is an empty recent list, whose first 10 bytes are put back after every
+    /// step, by the same code for every side.
+    fn step(&mut self, step: &Step, side: &Side, turns: u64) -> u64 {
+        let (output, record) = (&mut self.output[..step.output], &mut self.small[..step.record]);
+        let recent = &mut self.recent[..step.recent.len()];
+        recent.copy_from_slice(&step.recent);
+        repeat(turns, || {
+            let message = black_box(&step.message[..]);
+            let answer = (side.step)(message, step.arrival, &step.sheet, recent, output, record);
+            if let (Some(now), Some(before)) = (recent.first_chunk_mut::<10>(), step.recent.first_chunk()) {
+                *now = *before;
+            }
+            answer.into()
+        })
+    }
+
+    fn walk(&mut self, walk: &Walk, side: &Side, turns: u64) -> u64 {
+        let Walk { router, receiving, destination, ttl, .. } = *walk;
+        let (output, answer) = (&mut self.output[..walk.output], &mut self.small[..walk.answer]);
+        repeat(turns, || {
+            let start = Start { message: black_box(&walk.message), router, receiving, destination, ttl };
+            (side.walk)(&walk.yard, &walk.times, start, output, answer).into()
+        })
+    }
 }
 
 #[inline(always)]
