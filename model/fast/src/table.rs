@@ -174,3 +174,71 @@ fn way_ok(route: &Route, interfaces: usize) -> bool {
         Class::Other => false,
     }
 }
+
+#[cfg(test)]
+mod tests {
+    use super::*;
+
+    /// The sum of RFC 1071, word by word.
+    fn carried(block: &[u8; BLOCK]) -> u16 {
+        block.chunks_exact(2).fold(0, |sum: u16, word| {
+            let (sum, carry) = sum.overflowing_add(be16(word, 0));
+            sum + u16::from(carry)
+        })
+    }
+
+    fn mended(mut block: [u8; BLOCK]) -> [u8; BLOCK] {
+        block[510..].fill(0);
+        let check = !carried(&block);
+        block[510..].copy_from_slice(&check.to_be_bytes());
+        block
+    }
+
+    /// A block of one interface, 10.0.0.1/24.
+    fn of_one(place: u8, switches: [u8; 2]) -> [u8; BLOCK] {
+        let mut block = [0; BLOCK];
+        block[..10].copy_from_slice(&[1, 1, 0, place, 10, 0, 0, 1, 24, 1]);
+        block[SWITCHES..510].copy_from_slice(&switches);
+        mended(block)
+    }
+
+    #[test]
+    fn the_sum_is_that_of_rfc_1071() {
+        let mut seed = 1_u64;
+        for turn in 0..20_000 {
+            let mut block = [0xff; BLOCK];
+            for byte in &mut block[..turn % BLOCK] {
+                seed = seed.wrapping_mul(6_364_136_223_846_793_005).wrapping_add(1);
+                *byte = (seed >> 56) as u8;
+            }
+            block[0] |= 1;
+            // right, by a little wrong, by two bytes exchanged, and as it came
+            let mut blocks = [mended(block), mended(block), mended(block), block];
+            blocks[1][turn % BLOCK] ^= 1;
+            blocks[2].swap(turn % BLOCK & !1, turn % BLOCK | 1);
+            for block in blocks {
+                let mut sum = Sum::of_frame(&block);
+                entries::<ROUTE>(&block, FULL_OF_ROUTES).for_each(|entry| sum.add(entry));
+                assert_eq!(sum.is_right(), carried(&block) == 0xffff);
+            }
+        }
+    }
+
+    #[test]
+    fn one_switch_in_the_first_block() {
+        let right = |place: u8, switches| interfaces_in(&of_one(place, switches), usize::from(place)).is_some();
+        assert!(right(0, [0, 0]) && right(0, [0, 1]) && right(3, [0, 0]));
+        assert!(!right(0, [0, 2]) && !right(0, [1, 0]) && !right(3, [0, 1]));
+    }
+
+    #[test]
+    fn no_byte_of_a_block_can_change_alone() {
+        let mut block = of_one(2, [0, 0]);
+        assert!(interfaces_in(&block, 2).is_some() && interfaces_in(&block, 3).is_none());
+        for at in 0..BLOCK {
+            block[at] ^= 1;
+            assert!(interfaces_in(&block, 2).is_none());
+            block[at] ^= 1;
+        }
+    }
+}
