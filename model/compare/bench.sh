@@ -12,4 +12,5 @@ if [ -z "$emulate" ]; then
     exec $bench "$what"
 fi
 [ "$what" = instructions ] || fail "$what cannot be measured under an emulator: only instructions can"
-EMULATE=$emulate exec $bench instructions emulated
+export EMULATE="$emulate"
+exec $bench instructions emulated

@@ -102,7 +102,8 @@ pub fn is_link_scoped(address: u32) -> bool {
     address >> 8 == 0x00e0_0000
 }
 
-/// Whether two addresses agree in so many bits, at most 32.
+/// Whether two addresses agree in so many bits, at most 32: their difference, moved up by as many, stays below 2^32. On plain
+/// x86-64 that is less than counting its leading zeros, which has no instruction that is right for 0.
 #[inline(always)]
 pub fn agree(one: u32, other: u32, bits: u8) -> bool {
     u64::from(one ^ other) << bits <= u64::from(u32::MAX)

@@ -54,7 +54,7 @@ impl Sum {
     }
 }
 
-/// The entries in use of a block of this kind, at this place of its sheet; None where its first or last 4 bytes are wrong.
+/// How many entries a block of this kind, at this place of its sheet, has in use; None where its first 4 bytes are wrong.
 #[inline(always)]
 fn used(block: &[u8; BLOCK], kind: u8, full: usize, place: usize) -> Option<usize> {
     let head = le32(block, 0) ^ (place as u32) << 24; // takes the right number out
