@@ -1,7 +1,7 @@
 //! Random cases of the engine's step: a router, and messages to it, right ones and wrong ones.
 
-use crate::entries::Arrival;
 use crate::tables::{address, group, plan, spoil, spoil_entry};
+use fast::engine::Arrival;
 use model::build::{augmented, ip, standard, Header, SheetPlan};
 use model::bytes::ALL_ONES;
 use model::recent::{Entry, Recent};

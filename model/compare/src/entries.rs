@@ -1,6 +1,7 @@
 //! The entries of include/servicebough.h, wrapped once: a slice passes as its pointer and its length.
 
-use model::walk::Start;
+use fast::engine::Arrival;
+use fast::walk::Start;
 
 mod c {
     #[link(name = "servicebough", kind = "static")]
@@ -58,15 +59,6 @@ pub fn clock_unix(seconds: u64, nanoseconds: u64) -> u64 {
 
 pub fn clock_arrival(y: u64) -> u32 {
     unsafe { c::bough_clock_arrival(y) }
-}
-
-/// How a message arrived.
-#[derive(Clone, Copy, Debug)]
-pub struct Arrival {
-    pub destination: u32,
-    pub receiving: u32,
-    pub ttl: u32,
-    pub time: u32,
 }
 
 pub fn engine_step(

@@ -1,4 +1,4 @@
-//! Compares the library's entries with the model on random cases:
+//! Compares the library's entries, and the package `fast`, with the model on random cases:
 //!
 //!     compare clock|engine|walk CASES SEED [exact]
 //!     compare seeds CASES SEED FOLDER
@@ -9,25 +9,29 @@
 //! `seeds` writes cases as inputs of the fuzz target instead.
 
 use compare::cases::{Router, Step};
-use compare::entries;
 use compare::lent::{Guard, Lent};
+use compare::sides::{Side, FAST, LIBRARY, MODEL};
 use compare::yards::{self, Walk};
-use model::clock::{self, LIMIT};
-use model::engine::{self, SENT_ON};
+use fast::walk::Start;
+use model::bytes::be32;
+use model::clock::LIMIT;
+use model::engine::{REPLIED, SENT_ON};
 use model::message::{blocks, BlockType};
 use model::rng::Rng;
-use model::walk::Start;
 use std::collections::BTreeMap;
 use std::path::Path;
 use std::process::exit;
 use std::{fs, io};
 
+/// What is compared with the model.
+const COMPARED: [Side; 2] = [LIBRARY, FAST];
+
 /// How often each thing was met.
 #[derive(Default)]
-struct Met(BTreeMap<(&'static str, u32), u64>);
+struct Met(BTreeMap<(&'static str, u64), u64>);
 
 impl Met {
-    fn count(&mut self, what: &'static str, number: u32) {
+    fn count(&mut self, what: &'static str, number: u64) {
         *self.0.entry((what, number)).or_default() += 1;
     }
 
@@ -38,9 +42,24 @@ impl Met {
     }
 }
 
-fn differs(what: &str) -> ! {
-    println!("difference: {what}");
-    exit(1);
+/// What the model answers to a call, and what it leaves of what was lent. The library and `fast` must do the same.
+fn compared<Lends: Clone + PartialEq>(
+    lends: &Lends,
+    call: impl Fn(&Side, &mut Lends) -> u64,
+    told: impl Fn() -> String,
+) -> (u64, Lends) {
+    let mut left = lends.clone();
+    let expected = call(&MODEL, &mut left);
+    for side in COMPARED {
+        let mut lent = lends.clone();
+        let number = call(&side, &mut lent);
+        if number != expected || lent != left {
+            let how = if number == expected { "the lent bytes differ" } else { "the numbers differ" };
+            println!("difference: {}: {} answers {number}, the model {expected}; {how}", told(), side.name);
+            exit(1);
+        }
+    }
+    (expected, left)
 }
 
 // ---- clock ----------------------------------------------------------------------------------------
@@ -61,79 +80,50 @@ fn clock_case(rng: &mut Rng, guard: Guard, met: &mut Met) {
     let (r, y) = if rng.one_in(2) { (r.min(y), r.max(y)) } else { (r, y) };
     let length = if rng.one_in(8) { rng.below(50) as usize } else { 24 };
     let start = rng.one_in(4);
-    let mut ours = Lent::noise(length, guard, rng);
-    let mut theirs = ours.clone();
-    let number = match start {
-        true => entries::clock_start(reading, ours.slice()),
-        false => entries::clock_advance(r, y, reading, ours.slice()),
+    let call = |side: &Side, out: &mut Lent| match start {
+        true => u64::from((side.clock_start)(reading, out.slice())),
+        false => u64::from((side.clock_advance)(r, y, reading, out.slice())),
     };
-    let expected = match start {
-        true => model::entries::clock_start(reading, theirs.slice()),
-        false => model::entries::clock_advance(r, y, reading, theirs.slice()),
-    };
-    if number != expected || ours != theirs {
-        differs(&format!("start {start} r {r} y {y} reading {reading} room {length}: {number}, model {expected}"));
-    }
+    let told = || format!("start {start} r {r} y {y} reading {reading} room {length}");
+    let (number, _) = compared(&Lent::noise(length, guard, rng), call, told);
     met.count(if start { "start" } else { "advance" }, number);
 
     let any = [rng.draw(), rng.draw()];
     let seconds = rng.pick(&[0, 1, 2_085_978_494, 2_085_978_495, 2_085_978_496, any[0], any[0] % 2_085_978_496]);
     let nanoseconds = rng.pick(&[0, 999_999_999, 1_000_000_000, any[1], any[1] % 1_000_000_000]);
-    let units = entries::clock_unix(seconds, nanoseconds);
-    if units != model::entries::clock_unix(seconds, nanoseconds) {
-        differs(&format!("unix {seconds} {nanoseconds}: {units}"));
-    }
-    met.count("unix refused", u32::from(units == 0));
-    if entries::clock_arrival(y) != clock::arrival(y) {
-        differs(&format!("arrival {y}"));
-    }
+    let unix = |side: &Side, (): &mut ()| (side.clock_unix)(seconds, nanoseconds);
+    let (units, ()) = compared(&(), unix, || format!("unix {seconds} {nanoseconds}"));
+    met.count("unix refused", u64::from(units == 0));
+    compared(&(), |side, ()| u64::from((side.clock_arrival)(y)), || format!("arrival {y}"));
 }
 
 // ---- engine ---------------------------------------------------------------------------------------
 
 /// The code in the last type 4 block of what was sent.
-fn code_sent(output: &[u8], record: &[u8]) -> u32 {
+fn code_sent(output: &[u8], record: &[u8]) -> u64 {
     let length = usize::from(record[0]) * 256 + usize::from(record[1]);
     let sent = blocks(&output[..length]).expect("a message sent is well-formed");
     let last = sent.iter().rfind(|block| block.kind == BlockType::Standard).expect("it has a type 4 block");
-    u32::from(output[last.at + 51])
+    u64::from(output[last.at + 51])
 }
 
 fn engine_case(step: &Step, rng: &mut Rng, guard: Guard, met: &mut Met) {
-    let mut message = Lent::of(&step.message, guard, rng);
-    let mut sheet = Lent::of(&step.sheet, guard, rng);
-    let mut ours = [
+    let lends = [
+        Lent::of(&step.message, guard, rng),
+        Lent::of(&step.sheet, guard, rng),
         Lent::of(&step.recent, guard, rng),
         Lent::noise(step.output, guard, rng),
         Lent::noise(step.record, guard, rng),
     ];
-    let mut theirs = ours.clone();
-    let read = [message.clone(), sheet.clone()];
-    let [recent, output, record] = &mut ours;
-    let number = entries::engine_step(
-        message.slice(),
-        step.arrival,
-        sheet.slice(),
-        recent.slice(),
-        output.slice(),
-        record.slice(),
-    );
-    let [recent, output, record] = &mut theirs;
-    let arrival = engine::Arrival {
-        message: &step.message,
-        destination: step.arrival.destination,
-        receiving: step.arrival.receiving,
-        ttl: step.arrival.ttl,
-        time: step.arrival.time,
+    let call = |side: &Side, lends: &mut [Lent; 5]| {
+        let [message, sheet, recent, output, record] = lends.each_mut().map(Lent::slice);
+        u64::from((side.step)(message, step.arrival, sheet, recent, output, record))
     };
-    let expected = engine::step(arrival, &step.sheet, recent.slice(), output.slice(), record.slice());
-    if number != expected || ours != theirs || read != [message, sheet] {
-        differs(&format!("{step:?}: {number}, model {expected}"));
-    }
+    let (number, mut left) = compared(&lends, call, || format!("{step:?}"));
     met.count("answer", number);
-    if number >= SENT_ON {
-        let code = code_sent(theirs[1].clone().slice(), theirs[2].clone().slice());
-        met.count("code", code);
+    if number >= u64::from(SENT_ON) {
+        let [.., output, record] = left.each_mut().map(Lent::slice);
+        met.count("code", code_sent(output, record));
     }
 }
 
@@ -152,29 +142,27 @@ fn engine_cases(cases: u64, rng: &mut Rng, guard: Guard, met: &mut Met) {
 // ---- walk -----------------------------------------------------------------------------------------
 
 fn walk_case(walk: &Walk, rng: &mut Rng, guard: Guard, met: &mut Met) {
-    let mut yard = Lent::of(&walk.yard, guard, rng);
-    let mut message = Lent::of(&walk.message, guard, rng);
-    let mut ours = [Lent::noise(walk.output, guard, rng), Lent::noise(walk.answer, guard, rng)];
-    let mut theirs = ours.clone();
-    let read = [yard.clone(), message.clone()];
+    let lends = [
+        Lent::of(&walk.yard, guard, rng),
+        Lent::of(&walk.message, guard, rng),
+        Lent::noise(walk.output, guard, rng),
+        Lent::noise(walk.answer, guard, rng),
+    ];
     let times = walk.times.clone().into_boxed_slice();
-    let start = |message| Start {
-        message,
-        router: walk.router,
-        receiving: walk.receiving,
-        destination: walk.destination,
-        ttl: walk.ttl,
+    let call = |side: &Side, lends: &mut [Lent; 4]| {
+        let [yard, message, output, answer] = lends.each_mut().map(Lent::slice);
+        let Walk { router, receiving, destination, ttl, .. } = *walk;
+        u64::from((side.walk)(yard, &times, Start { message, router, receiving, destination, ttl }, output, answer))
     };
-    let [output, answer] = &mut ours;
-    let number = entries::walk(yard.slice(), &times, start(message.slice()), output.slice(), answer.slice());
-    let [output, answer] = &mut theirs;
-    let start = start(&walk.message);
-    let walked = model::entries::walk(&walk.yard, &walk.times, start, output.slice(), answer.slice());
-    if number != walked.end || ours != theirs || read != [yard, message] || *times != walk.times[..] {
-        differs(&format!("{walk:?}: {number}, model {walked:?}"));
+    let (end, mut left) = compared(&lends, call, || format!("{walk:?}"));
+    met.count("end", end);
+    if end >= u64::from(REPLIED) {
+        met.count("steps", u64::from(be32(left[3].slice(), 4)));
     }
-    met.count("end", number);
-    met.count("steps", walked.steps);
+    if *times != walk.times[..] {
+        println!("difference: {walk:?}: the times were changed");
+        exit(1);
+    }
 }
 
 // ---- the fuzz target's inputs ---------------------------------------------------------------------
@@ -236,5 +224,5 @@ fn main() {
         }
     }
     met.print();
-    println!("{what}: {cases} cases, seed {seed}, no difference");
+    println!("{what}: {cases} cases, seed {seed}, library and fast compared with the model, no difference");
 }
