@@ -111,10 +111,10 @@ fn is_proper(sheet: &[u8], layout: Layout, chosen: Chosen, h: Header) -> bool
     requires { ⌜ layout ≡ layoutOf (now sheet) ⌝ }
     ensures { λ r. ⌜ r ≡ (isQuery h && properLastHop (interfaceOf (now (sheet .entry))) (layoutOf (now (sheet .entry)) .interfaces) chosen (h .client)) ⌝ }
 {
-    if h.kind != message::QUERY {
-        return false;
+    if h.kind == message::QUERY {
+        return route::last_hop(sheet, layout, chosen, h.client);
     }
-    route::last_hop(sheet, layout, chosen, h.client)
+    false
 }
 
 // Rows 14 to 17.
