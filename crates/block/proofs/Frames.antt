@@ -12,9 +12,10 @@ use Rattle.wire.specs.Numbers.{byteAt}
 use Rattle.wire.specs.Parts.{allZero}
 use Rattle.block.specs.Sum.{rightSum, sumOk}
 use Rattle.block.specs.Block.{blockSize, switchesAt, entriesRoom, kindOf, usedIn, blockNumber, placeInBlock, entriesEach, unusedOf, filledOk, frameOk}
-use Rattle.block.specs.Inside.{wordSize, blockWords, switchesWord, wordAt, words, zeroFrom}
+use Rattle.block.specs.Inside.{wordSize, blockWords, switchesWord, wordAt, words, zeroFrom, Alike}
 use Rattle.block.proofs.Laws.{entries-fit, filled}
-use Rattle.block.proofs.Sums.{sum-plain}
+use Rattle.block.proofs.Alike.{alike-same}
+use Rattle.block.proofs.Sums.{sum-alike}
 use Rattle.block.proofs.Unused.{none-left, words-kept}
 
 -- the entries in use end at a word, where their size is a number of words
@@ -70,9 +71,9 @@ module _ (b : List ℕ) (kind size number used n : ℕ) (partly full : Bool) (eu
 
       module _ (bytes : (i : ℕ) → byteAt b i < 256) where
         -- no word is unused
-        pub framed-full : (sum : ℕ) (x : Bool) → from ≡ switchesWord → sum ≡ words b blockWords → x ≡ (ltb 0 sum && eqb (sum % rightSum) 0)
+        pub framed-full : (sum : ℕ) (x : Bool) → from ≡ switchesWord → Alike sum (words b blockWords) → x ≡ (ltb 0 sum && eqb (sum % rightSum) 0)
             → x ≡ frameOk kind size number partly b
-        framed-full sum x e es ex = rw (as-rest, unused, e, none-left b, sum-plain b bytes sum long es) ex
+        framed-full sum x e es ex = rw (as-rest, unused, e, none-left b, sum-alike b bytes sum long es) ex
 
         -- those that are are zero, and add nothing
         pub framed-partly : (z x : Bool) (head last : ℕ) → from ≤ switchesWord → z ≡ zeroFrom b from → not z ≡ false → head ≡ words b from → last ≡ wordAt b switchesAt
@@ -82,4 +83,4 @@ module _ (b : List ℕ) (kind size number used n : ℕ) (partly full : Bool) (eu
             let zeros : zeroFrom b from ≡ true = sym ez ∙ not-false z h in
             let same : words b switchesWord ≡ words b from = words-kept b from long fits zeros in
             let all : head + last ≡ words b blockWords = omega (arith, words-last b) in
-            rw (as-rest, unused, zeros, sum-plain b bytes (head + last) long all) ex
+            rw (as-rest, unused, zeros, sum-alike b bytes (head + last) long (alike-same (head + last) (words b blockWords) all)) ex
