@@ -18,14 +18,6 @@ use Rattle.block.specs.Inside.{wordSize, blockWords, wordAt, words, Alik
 use Rattle.rows.proofs.Laws.{same-flag, both-true, both-of}
 use Rattle.block.proofs.Alike.{alike-less, alike-same, alike-on, alike-both, alike-test}
 
--- the loop: one word more, and all of them
-pub words-more : (b : List ℕ) (sum i x : ℕ) → sum ≡ words b i → x ≡ wordAt b (wordSize * i) → sum + x ≡ words b (i + 1)
-unfolding words
-words-more b sum i x e f = rw (add-one, ← e, f)
-
-pub words-all : (b : List ℕ) (sum i to : ℕ) → sum ≡ words b i → i ≤ to → to ≤ i → sum ≡ words b to
-words-all b sum i to e h k = let q : i ≡ to = omega arith in e ∙ ap (words b) q
-
 -- four bytes at the front of what is left
 pub four : (b : List ℕ) (at : ℕ) → at + wordSize ≤ length b
     → drop at b ≡ byteAt b at ∷ byteAt b (at + 1) ∷ byteAt b (at + 2) ∷ byteAt b (at + 3) ∷ drop (at + wordSize) b

@@ -48,20 +48,6 @@ fn word(b: &[u8], at: usize) -> u32
     (wide(b[at]) + wide(b[at + 1]) * 256) + (wide(b[at + 2]) * 65536 + wide(b[at + 3]) * 16777216)
 }
 
-// The plain sum of the first `to` words.
-fn sum_words(b: &[u8], to: usize) -> u64
-    requires { ⌜ (to ≤ blockWords) × (length (now b) ≡ blockSize) ⌝ }
-    ensures { λ r. ⌜ (r ≡ words (now (b .entry)) to) × (r ≤ mostWord * to) ⌝ }
-{
-    let mut sum: u64 = 0;
-    let mut i: usize = 0;
-    while i < to {
-        sum += word(b, WORD_SIZE * i) as u64;
-        i += 1;
-    }
-    sum
-}
-
 // A sum of 64-bit words, and the carry out of its last addition.
 struct LongSum {
     words: u64,
@@ -170,7 +156,8 @@ fn filled_ok(each: usize, partly: bool, used: usize) -> bool
 }
 
 // Whether a block keeps its frame. What one look decides comes first. Where the entries in use reach the switches no word is
-// unused, and all are summed by long words; else those that are must be zero, and add nothing to the sum.
+// unused; else those that are must be zero. The sum is asked for in two places: so the compiler leaves it a function of its own,
+// and puts the rest into its callers, where the size is known.
 pub fn frame_ok(b: &[u8], kind: u8, size: usize, number: u16, partly: bool) -> bool
     requires { ⌜ length (now b) ≡ blockSize ⌝ }
     requires { ⌜ (0 < size) × (size % wordSize ≡ 0) ⌝ }
@@ -188,5 +175,5 @@ pub fn frame_ok(b: &[u8], kind: u8, size: usize, number: u16, partly: bool) -> b
     if !zero_from(b, end) {
         return false;
     }
-    right_sum(sum_words(b, end) + word(b, SWITCHES_AT) as u64)
+    right_sum(sum_block(b))
 }
