@@ -1,5 +1,5 @@
 -- The frame of a block as the code looks at it: a law for each way out.
-use Prim.Native.Nat.{ℕ, _+_, _*_, _/_, _%_, _≤_, _<_}
+use Prim.Native.Nat.{ℕ, _*_, _/_, _%_, _≤_, _<_}
 use mathlib.Core.Bool.{Bool, true, false, not, _&&_, _||_}
 use mathlib.Core.Path.{_≡_, refl, sym, ap, _∙_}
 use mathlib.Core.List.{List}
@@ -11,11 +11,11 @@ use Rattle.rows.proofs.Laws.{neither-of}
 use Rattle.wire.specs.Numbers.{byteAt}
 use Rattle.wire.specs.Parts.{allZero}
 use Rattle.block.specs.Sum.{rightSum, sumOk}
-use Rattle.block.specs.Block.{blockSize, switchesAt, entriesRoom, kindOf, usedIn, blockNumber, placeInBlock, entriesEach, unusedOf, filledOk, frameOk}
-use Rattle.block.specs.Inside.{wordSize, blockWords, switchesWord, wordAt, words, zeroFrom}
+use Rattle.block.specs.Block.{blockSize, entriesRoom, kindOf, usedIn, blockNumber, placeInBlock, entriesEach, unusedOf, filledOk, frameOk}
+use Rattle.block.specs.Inside.{wordSize, blockWords, switchesWord, words, zeroFrom, Alike}
 use Rattle.block.proofs.Laws.{entries-fit, filled}
-use Rattle.block.proofs.Sums.{sum-plain}
-use Rattle.block.proofs.Unused.{none-left, words-kept}
+use Rattle.block.proofs.Sums.{sum-alike}
+use Rattle.block.proofs.Unused.{none-left}
 
 -- the entries in use end at a word, where their size is a number of words
 ends : (size used : ℕ) → size % wordSize ≡ 0 → wordSize * (placeInBlock size used / wordSize) ≡ placeInBlock size used
@@ -24,10 +24,6 @@ ends size used h =
     let e : size ≡ wordSize * q = omega arith in
     let p : size * used ≡ wordSize * (q * used) = omega (arith, ap (λ (n : ℕ). n * used) e) in
     omega arith
-
-words-last : (b : List ℕ) → words b blockWords ≡ words b switchesWord + wordAt b switchesAt
-unfolding words
-words-last b = refl
 
 -- what one look decides
 module _ (b : List ℕ) (kind size number used n : ℕ) (partly full : Bool) (eu : used ≡ usedIn b) (en : n ≡ blockNumber b)
@@ -70,16 +66,12 @@ module _ (b : List ℕ) (kind size number used n : ℕ) (partly full : Bool) (eu
 
       module _ (bytes : (i : ℕ) → byteAt b i < 256) where
         -- no word is unused
-        pub framed-full : (sum : ℕ) (x : Bool) → from ≡ switchesWord → sum ≡ words b blockWords → x ≡ (ltb 0 sum && eqb (sum % rightSum) 0)
+        pub framed-full : (sum : ℕ) (x : Bool) → from ≡ switchesWord → Alike sum (words b blockWords) → x ≡ (ltb 0 sum && eqb (sum % rightSum) 0)
             → x ≡ frameOk kind size number partly b
-        framed-full sum x e es ex = rw (as-rest, unused, e, none-left b, sum-plain b bytes sum long es) ex
+        framed-full sum x e es ex = rw (as-rest, unused, e, none-left b, sum-alike b bytes sum long es) ex
 
-        -- those that are are zero, and add nothing
-        pub framed-partly : (z x : Bool) (head last : ℕ) → from ≤ switchesWord → z ≡ zeroFrom b from → not z ≡ false → head ≡ words b from → last ≡ wordAt b switchesAt
-            → x ≡ (ltb 0 (head + last) && eqb ((head + last) % rightSum) 0)
+        -- those that are are zero
+        pub framed-partly : (z : Bool) (sum : ℕ) (x : Bool) → z ≡ zeroFrom b from → not z ≡ false → Alike sum (words b blockWords)
+            → x ≡ (ltb 0 sum && eqb (sum % rightSum) 0)
             → x ≡ frameOk kind size number partly b
-        framed-partly z x head last fits ez h eh el ex =
-            let zeros : zeroFrom b from ≡ true = sym ez ∙ not-false z h in
-            let same : words b switchesWord ≡ words b from = words-kept b from long fits zeros in
-            let all : head + last ≡ words b blockWords = omega (arith, words-last b) in
-            rw (as-rest, unused, zeros, sum-plain b bytes (head + last) long all) ex
+        framed-partly z sum x ez h es ex = let zeros : zeroFrom b from ≡ true = sym ez ∙ not-false z h in rw (as-rest, unused, zeros, sum-alike b bytes sum long es) ex

@@ -1,4 +1,5 @@
 -- Laws that the crates above cite; and `Determined`: each promise leaves one answer.
+mod Alike
 mod Sums
 mod Unused
 mod Frames

@@ -14,16 +14,9 @@ use borrow.Author.Tests.{eqb-true, eq-eqb, ltb-true, lt-ltb}
 use Rattle.wire.specs.Numbers.{byteAt}
 use Rattle.block.specs.Sum.{rightSum, carried, sumFrom, sumOk}
 use Rattle.block.specs.Block.{blockSize}
-use Rattle.block.specs.Inside.{wordSize, blockWords, wordAt, words}
+use Rattle.block.specs.Inside.{wordSize, blockWords, wordAt, words, Alike}
 use Rattle.rows.proofs.Laws.{same-flag, both-true, both-of}
-
--- the loop: one word more, and all of them
-pub words-more : (b : List ℕ) (sum i x : ℕ) → sum ≡ words b i → x ≡ wordAt b (wordSize * i) → sum + x ≡ words b (i + 1)
-unfolding words
-words-more b sum i x e f = rw (add-one, ← e, f)
-
-pub words-all : (b : List ℕ) (sum i to : ℕ) → sum ≡ words b i → i ≤ to → to ≤ i → sum ≡ words b to
-words-all b sum i to e h k = let q : i ≡ to = omega arith in e ∙ ap (words b) q
+use Rattle.block.proofs.Alike.{alike-less, alike-same, alike-on, alike-both, alike-test}
 
 -- four bytes at the front of what is left
 pub four : (b : List ℕ) (at : ℕ) → at + wordSize ≤ length b
@@ -32,30 +25,20 @@ four b at h =
     rw (drop-cons b at 0 (omega arith), drop-cons b (suc at) 0 (omega arith), drop-cons b (suc (suc at)) 0 (omega arith), drop-cons b (suc (suc (suc at))) 0 (omega arith))
     (simp (add-one, add-two, add-three, add-four))
 
--- a sum with end-around carry beside the plain one: multiples of 0xFFFF are gone, and it is 0 only where the plain one is
+-- a sum with end-around carry beside the plain one
 record Folded (sum plain : ℕ) : Type 0 where
-  times : ℕ
-  is : plain ≡ sum + rightSum * times
   most : sum ≤ rightSum
-  some : 0 < plain → 0 < sum
-
-either-some : (plain sum w : ℕ) → (0 < plain → 0 < sum) → 0 < plain + w → 0 < sum + w
-either-some zero sum w g h = omega arith
-either-some (suc plain) sum w g h = let k : 0 < sum = g (omega arith) in omega arith
+  alike : Alike sum plain
 
 folded-more : (sum plain w : ℕ) → Folded sum plain → w < 65536 → Folded (carried (sum + w)) (plain + w)
 unfolding carried
 folded-more sum plain w f h =
     record {
-      times = f .times + (sum + w) / 65536;
-      is = omega arith;
       most = omega arith;
-      some = λ k. let l : 0 < sum + w = either-some plain sum w (f .some) k in omega arith;
+      alike =
+          alike-on (carried (sum + w)) (sum + w) (plain + w) (alike-less (carried (sum + w)) (sum + w) ((sum + w) / 65536) (omega arith) (λ k. omega arith))
+          (alike-both sum plain w w (f .alike) (alike-same w w refl));
     }
-
-still-some : (plain w v : ℕ) → (0 < w → 0 < v) → 0 < plain + w → 0 < plain + v
-still-some plain zero v g h = omega arith
-still-some plain (suc w) v g h = let k : 0 < v = g (omega arith) in omega arith
 
 -- two words of 16 bits more, and what is a multiple of 0xFFFF more than they are
 folded-word : (sum plain high low more times : ℕ) → Folded sum plain → high < 65536 → low < 65536 → more ≡ high + low + rightSum * times
@@ -63,24 +46,27 @@ folded-word : (sum plain high low more times : ℕ) → Folded sum plain → hig
     → Folded (carried (carried (sum + high) + low)) (plain + more)
 folded-word sum plain high low more times f h l e some =
     let g = folded-more (carried (sum + high)) (plain + high) low (folded-more sum plain high f h) l in
+    let last : ℕ = carried (carried (sum + high) + low) in
     record {
-      times = g .times + times;
-      is = omega (arith, g .is);
       most = g .most;
-      some = λ k. let q : 0 < plain + (high + low) = still-some plain more (high + low) some k in g .some (omega arith);
+      alike =
+          alike-on last (plain + high + low) (plain + more) (g .alike)
+          (alike-on (plain + high + low) (plain + (high + low)) (plain + more) (alike-same (plain + high + low) (plain + (high + low)) (omega arith))
+          (alike-both plain plain (high + low) more (alike-same plain plain refl) (alike-less (high + low) more times e some)));
     }
 
 -- so it is 0xFFFF where the plain one is a multiple of it, and not 0
 folded-test : (sum plain : ℕ) → Folded sum plain → eqb sum rightSum ≡ ltb 0 plain && eqb (plain % rightSum) 0
 folded-test sum plain f =
-    same-flag (eqb sum rightSum) (ltb 0 plain && eqb (plain % rightSum) 0)
+    same-flag (eqb sum rightSum) (ltb 0 sum && eqb (sum % rightSum) 0)
     (λ e. let q : sum ≡ rightSum = eqb-true sum rightSum e in
-    both-true (ltb 0 plain) (eqb (plain % rightSum) 0) (lt-ltb 0 plain (omega arith)) (eq-eqb (plain % rightSum) 0 (omega arith)))
-    (λ e. let q = both-of (ltb 0 plain) (eqb (plain % rightSum) 0) e in
-    let l : 0 < plain = ltb-true 0 plain (q .0) in
-    let k : 0 < sum = f .some l in
-    let z : plain % rightSum ≡ 0 = eqb-true (plain % rightSum) 0 (q .1) in
+    both-true (ltb 0 sum) (eqb (sum % rightSum) 0) (lt-ltb 0 sum (omega arith)) (eq-eqb (sum % rightSum) 0 (omega arith)))
+    (λ e. let q = both-of (ltb 0 sum) (eqb (sum % rightSum) 0) e in
+    let l : 0 < sum = ltb-true 0 sum (q .0) in
+    let z : sum % rightSum ≡ 0 = eqb-true (sum % rightSum) 0 (q .1) in
+    let m : sum ≤ rightSum = f .most in
     eq-eqb sum rightSum (omega arith))
+    ∙ alike-test sum plain (f .alike)
 
 -- 256 is prime to 0xFFFF
 times-256 : (w : ℕ) → (ltb 0 (256 * w) && eqb (256 * w % rightSum) 0) ≡ (ltb 0 w && eqb (w % rightSum) 0)
@@ -132,12 +118,13 @@ module _ (b : List ℕ) (bytes : (i : ℕ) → byteAt b i < 256) where
 
   summed : (n : ℕ) → wordSize * n ≤ length b → Summed b n
   unfolding sumFrom words
-  summed zero h = record { sum = 0; along = refl; folded = record { times = 0; is = refl; most = omega arith; some = λ k. k } }
+  summed zero h = record { sum = 0; along = refl; folded = record { most = omega arith; alike = alike-same 0 0 refl } }
   summed (suc n) h = summed-more n (omega arith) (summed n (omega arith))
 
-  -- the sum with end-around carry of a block is 0xFFFF where their plain sum is a multiple of it, and not 0
-  pub sum-plain : (w : ℕ) → length b ≡ blockSize → w ≡ words b blockWords → sumOk b ≡ ltb 0 w && eqb (w % rightSum) 0
+  -- the sum with end-around carry of a block is 0xFFFF where their plain sum, or one like it, is a multiple of it, and not 0
+  pub sum-alike : (w : ℕ) → length b ≡ blockSize → Alike w (words b blockWords) → sumOk b ≡ ltb 0 w && eqb (w % rightSum) 0
   unfolding sumOk sumFrom
-  sum-plain w long e =
+  sum-alike w long f =
       let p = summed blockWords (omega arith) in
-      rw (p .along, drop-of-length-le b {i = blockSize} (omega arith), e) (folded-test (p .sum) (256 * words b blockWords) (p .folded) ∙ times-256 (words b blockWords))
+      rw (p .along, drop-of-length-le b {i = blockSize} (omega arith), alike-test w (words b blockWords) f)
+      (folded-test (p .sum) (256 * words b blockWords) (p .folded) ∙ times-256 (words b blockWords))

@@ -4,8 +4,6 @@ use mathlib.Core.Bool.{Bool, true, _&&_, and-true, and-assoc}
 use mathlib.Core.List.{List}
 use mathlib.Core.Path.{_≡_, refl, sym, ap, _∙_}
 use native.Mathlib.Omega.{arith}
-use native.Mathlib.Nat.{add-zero}
-use native.Mathlib.Numerals.{add-one}
 use lib.Bits.{bitOr, bitAnd, or-add-and, and-le-l, and-le-r}
 use lib.Dec.{eqb}
 use lib.ListN.{length}
@@ -14,7 +12,7 @@ use Rattle.rows.proofs.Laws.{same-flag, both-true, both-of}
 use Rattle.wire.specs.Numbers.{byteAt}
 use Rattle.wire.specs.Parts.{allZero}
 use Rattle.block.specs.Block.{blockSize, switchesAt}
-use Rattle.block.specs.Inside.{wordSize, switchesWord, wordAt, words, zeroFrom}
+use Rattle.block.specs.Inside.{wordSize, switchesWord, wordAt, zeroFrom}
 use Rattle.block.proofs.Sums.{four}
 
 -- an OR is 0 where both are
@@ -73,17 +71,3 @@ pub zeros-all : (b : List ℕ) (from some i : ℕ) → i ≤ switchesWord → sw
 zeros-all b from some i h k so-far =
     let q : i ≡ switchesWord = omega arith in
     sym (and-true (eqb some 0)) ∙ ap (λ (t : Bool). eqb some 0 && t) (sym (ap (zeroFrom b) q ∙ none-left b)) ∙ so-far
-
--- words that are zero add nothing to the plain sum
-none-added : (b : List ℕ) (i : ℕ) → wordAt b (wordSize * i) ≡ 0 → words b (i + 1) ≡ words b i
-unfolding words
-none-added b i e = rw (add-one, e) (add-zero (words b i))
-
-kept-by : (b : List ℕ) (d from : ℕ) → length b ≡ blockSize → from + d ≡ switchesWord → zeroFrom b from ≡ true → words b switchesWord ≡ words b from
-kept-by b zero from long e z = let q : switchesWord ≡ from = omega arith in ap (words b) q
-kept-by b (suc d) from long e z =
-    let p = both-of (eqb (wordAt b (wordSize * from)) 0) (zeroFrom b (from + 1)) (sym (front b from long (omega arith)) ∙ z) in
-    kept-by b d (from + 1) long (omega arith) (p .1) ∙ none-added b from (eqb-true (wordAt b (wordSize * from)) 0 (p .0))
-
-pub words-kept : (b : List ℕ) (from : ℕ) → length b ≡ blockSize → from ≤ switchesWord → zeroFrom b from ≡ true → words b switchesWord ≡ words b from
-words-kept b from long h = kept-by b (switchesWord - from) from long (omega arith)

@@ -1,12 +1,12 @@
 // The frame of a block of 512 bytes: kind, entries in use, number, unused bytes, sum.
 ghost use mathlib.Core.Path.{_≡_};
-ghost use mathlib.Core.Bool.{_&&_};
+ghost use mathlib.Core.Bool.{_&&_, cond};
 ghost use Prim.Native.Nat.{_+_, _*_, _/_, _%_, _≤_, _<_};
 ghost use lib.Dec.{ltb, eqb};
 ghost use lib.ListN.{length};
 ghost use Rattle.block.specs.Sum.{rightSum};
 ghost use Rattle.block.specs.Block.{blockSize, entriesRoom, placeInBlock, filledOk, frameOk};
-ghost use Rattle.block.specs.Inside.{wordSize, mostWord, blockWords, switchesWord, wordAt, words, zeroFrom};
+ghost use Rattle.block.specs.Inside.{wordSize, mostWord, pastLong, blockWords, switchesWord, wordAt, words, zeroFrom, Alike, SumsTo};
 
 // Bytes of a block.
 pub const BLOCK_SIZE: usize = 512;
@@ -23,11 +23,11 @@ pub const ENTRIES_ROOM: usize = SWITCHES_AT - ENTRIES_AT;
 // Bytes of a word.
 const WORD_SIZE: usize = 4;
 
-// The words of a block.
-const BLOCK_WORDS: usize = BLOCK_SIZE / WORD_SIZE;
-
 // The word in which the switches stand.
 const SWITCHES_WORD: usize = SWITCHES_AT / WORD_SIZE;
+
+// One more than the largest word.
+const PAST_WORD: u64 = 4294967296;
 
 // What the words give when they are summed with end-around carry.
 const RIGHT_SUM: u64 = 65535;
@@ -48,18 +48,75 @@ fn word(b: &[u8], at: usize) -> u32
     (wide(b[at]) + wide(b[at + 1]) * 256) + (wide(b[at + 2]) * 65536 + wide(b[at + 3]) * 16777216)
 }
 
-// The plain sum of the first `to` words.
-fn sum_words(b: &[u8], to: usize) -> u64
-    requires { ⌜ (to ≤ blockWords) × (length (now b) ≡ blockSize) ⌝ }
-    ensures { λ r. ⌜ (r ≡ words (now (b .entry)) to) × (r ≤ mostWord * to) ⌝ }
+// A sum of 64-bit words, and the carry out of its last addition.
+struct LongSum {
+    words: u64,
+    carry: u64,
+}
+
+fn one_if(b: bool) -> u64
+    ensures { λ r. ⌜ (r ≡ cond b 1 0) × (r ≤ 1) ⌝ }
 {
-    let mut sum: u64 = 0;
-    let mut i: usize = 0;
-    while i < to {
-        sum += word(b, WORD_SIZE * i) as u64;
-        i += 1;
+    if b {
+        return 1;
     }
-    sum
+    0
+}
+
+// A 64-bit word more, and the carry out of the last addition: in this form the compiler takes it for one addition with carry.
+fn add(s: LongSum, w: u64) -> LongSum
+    requires { ⌜ s .carry ≤ 1 ⌝ }
+    ensures { λ r. ⌜ (r .words + pastLong * r .carry ≡ s .words + s .carry + w) × (r .carry ≤ 1) ⌝ }
+{
+    let half = std::num::wrapping_add_u64(s.words, w);
+    let words = std::num::wrapping_add_u64(half, s.carry);
+    LongSum {
+        words,
+        carry: one_if((half < w) | (words < half)),
+    }
+}
+
+// Words `i` and `i + 1` more, as one 64-bit word.
+fn add_two(s: LongSum, b: &[u8], i: usize) -> LongSum
+    requires { ⌜ (i + 2 ≤ blockWords) × (length (now b) ≡ blockSize) ⌝ }
+    requires { ⌜ SumsTo (now b) i s ⌝ }
+    ensures { λ r. ⌜ SumsTo (now (b .entry)) (i + 2) r ⌝ }
+{
+    let low = word(b, WORD_SIZE * i) as u64;
+    let high = word(b, WORD_SIZE * (i + 1)) as u64;
+    add(s, low + high * PAST_WORD)
+}
+
+// Words `i` to `i + 15` more. Without a loop no carry has to be kept aside.
+fn add_sixteen(s: LongSum, b: &[u8], i: usize) -> LongSum
+    requires { ⌜ (i + 16 ≤ blockWords) × (length (now b) ≡ blockSize) ⌝ }
+    requires { ⌜ SumsTo (now b) i s ⌝ }
+    ensures { λ r. ⌜ SumsTo (now (b .entry)) (i + 16) r ⌝ }
+{
+    let s4 = add_two(add_two(s, b, i), b, i + 2);
+    let s8 = add_two(add_two(s4, b, i + 4), b, i + 6);
+    let s12 = add_two(add_two(s8, b, i + 8), b, i + 10);
+    add_two(add_two(s12, b, i + 12), b, i + 14)
+}
+
+// A long sum in fewer bits, with room for all of it.
+fn folded(s: LongSum) -> u64
+    requires { ⌜ s .carry ≤ 1 ⌝ }
+    ensures { λ r. ⌜ Alike r (s .words + s .carry) ⌝ }
+{
+    s.words / PAST_WORD + s.words % PAST_WORD + s.carry
+}
+
+// A sum of all words that the test of the sum does not tell from the plain one.
+fn sum_block(b: &[u8]) -> u64
+    requires { ⌜ length (now b) ≡ blockSize ⌝ }
+    ensures { λ r. ⌜ Alike r (words (now (b .entry)) blockWords) ⌝ }
+{
+    let none = LongSum { words: 0, carry: 0 };
+    let s32 = add_sixteen(add_sixteen(none, b, 0), b, 16);
+    let s64 = add_sixteen(add_sixteen(s32, b, 32), b, 48);
+    let s96 = add_sixteen(add_sixteen(s64, b, 64), b, 80);
+    folded(add_sixteen(add_sixteen(s96, b, 96), b, 112))
 }
 
 // Whether words of a plain sum give 0xFFFF with end-around carry.
@@ -99,7 +156,8 @@ fn filled_ok(each: usize, partly: bool, used: usize) -> bool
 }
 
 // Whether a block keeps its frame. What one look decides comes first. Where the entries in use reach the switches no word is
-// unused; else those that are must be zero, and add nothing to the sum.
+// unused; else those that are must be zero. The sum is asked for in two places: so the compiler leaves it a function of its own,
+// and puts the rest into its callers, where the size is known.
 pub fn frame_ok(b: &[u8], kind: u8, size: usize, number: u16, partly: bool) -> bool
     requires { ⌜ length (now b) ≡ blockSize ⌝ }
     requires { ⌜ (0 < size) × (size % wordSize ≡ 0) ⌝ }
@@ -112,10 +170,10 @@ pub fn frame_ok(b: &[u8], kind: u8, size: usize, number: u16, partly: bool) -> b
     }
     let end = end_of(size, used);
     if end == SWITCHES_WORD {
-        return right_sum(sum_words(b, BLOCK_WORDS));
+        return right_sum(sum_block(b));
     }
     if !zero_from(b, end) {
         return false;
     }
-    right_sum(sum_words(b, end) + word(b, SWITCHES_AT) as u64)
+    right_sum(sum_block(b))
 }

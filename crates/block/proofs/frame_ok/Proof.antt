@@ -23,8 +23,8 @@ returns-3 c = search wrong-rest
 
 returns-4 : tie.Need-returns-4
 returns-4 c =
-    let b = c .before .before .before .before .before .before .before .before .before .before .before .before .before .before .args .b .now in
-    let bytes : (i : ℕ) → byteAt b i < 256 = λ i. c .before .before .before .before .before .before .before .before .before .shared-slice-known3 .given i .fits in
+    let b = c .before .before .before .before .before .before .before .before .before .before .before .before .before .args .b .now in
+    let bytes : (i : ℕ) → byteAt b i < 256 = λ i. c .before .before .before .before .before .before .before .before .shared-slice-known3 .given i .fits in
     search (framed-partly, bytes)
 
 pub frame-ok-spec : {M : Type 1} → statement M
@@ -46,8 +46,5 @@ frame-ok-spec =
     (λ c κs. search needs)
     returns-3
     (λ c κs. search needs)
-    (λ c κs. search needs)
-    (λ c. search needs)
-    (λ c. search needs)
     (λ c κs. search needs)
     returns-4)
