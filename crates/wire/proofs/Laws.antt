@@ -14,7 +14,7 @@ use lib.Dec.{leb, eqb, lit≤}
 use lib.ListN.{length, take, drop, length-append, length-drop, List·getD-append}
 use lib.Seq.{take-at, drop-at, drop-drop, getD-take, getD-drop, getD-append-add, length-take-le}
 use Rattle.rows.proofs.Laws.{both-of}
-use Rattle.wire.specs.Numbers.{byteAt, be, le, octets, bytes}
+use Rattle.wire.specs.Numbers.{byteAt, be, le, le32, octets, bytes}
 use Rattle.wire.specs.Parts.{part, splice, wholeParts}
 
 -- two things equal to a third
@@ -159,6 +159,11 @@ be-bytes (suc d) v h =
       be-bytes d (v % B) (mod-lt v pos),
     )
     (div-add-mod' v B)
+
+-- a number in memory's order, by the weights of its bytes
+pub le32-is : (s : List ℕ) (at : ℕ) → le32 s at ≡ (byteAt s at + byteAt s (at + 1) * 256) + (byteAt s (at + 2) * 65536 + byteAt s (at + 3) * 16777216)
+unfolding le
+le32-is s at = let last : at + 2 + 1 ≡ at + 3 = omega arith in let p : byteAt s (at + 2 + 1) ≡ byteAt s (at + 3) = rw last in omega arith
 
 -- the bytes of a number are bytes
 octets-same : (d : ℕ) (s t : List ℕ) (i j : ℕ) → ((k : ℕ) → k < 2 ^ d → byteAt s (i + k) ≡ byteAt t (j + k)) → octets d t j → octets d s i

@@ -51,9 +51,9 @@ fn wide32(x: u8) -> u32
     x as u32
 }
 
-// The number of 4 bytes that begins at `at`, its first byte the one that counts least: in memory's order, so the compiler takes it
-// for one load and swaps no bytes.
-fn le32(s: &[u8], at: usize) -> u32
+// The number of 4 bytes that begins at `at`, its first byte the one that counts least: in memory's order, for tests that do not mind
+// the order of bytes. The compiler takes it for one load, and swaps no bytes. What is read is bytes.
+pub fn le32(s: &[u8], at: usize) -> u32
     requires { ⌜ at + 4 ≤ length (now s) ⌝ }
     ensures { λ r. ⌜ (r ≡ le32 (now (s .entry)) at) × octets 2 (now (s .entry)) at ⌝ }
 {
@@ -61,8 +61,7 @@ fn le32(s: &[u8], at: usize) -> u32
         + (wide32(s[at + 2]) * 65536 + wide32(s[at + 3]) * 16777216)
 }
 
-// The number of 8 bytes that begins at `at`, in memory's order, for tests that do not mind the order of bytes; and what is read is
-// bytes.
+// The number of 8 bytes that begins at `at`, in memory's order.
 pub fn le64(s: &[u8], at: usize) -> u64
     requires { ⌜ at + 8 ≤ length (now s) ⌝ }
     ensures { λ r. ⌜ (r ≡ le64 (now (s .entry)) at) × octets 3 (now (s .entry)) at ⌝ }
