@@ -9,7 +9,8 @@ use lib.Dec.{ltb, eqb}
 use borrow.Author.Tests.{eqb-true, eq-eqb, ltb-true, ltb-false, lt-ltb}
 use Rattle.rows.proofs.Laws.{same-flag, both-true, both-of}
 use Rattle.block.specs.Sum.{rightSum}
-use Rattle.block.specs.Inside.{wordSize, pastWord, pastLong, wordAt, words, Alike, SumsTo}
+use Rattle.wire.specs.Numbers.{le32}
+use Rattle.block.specs.Inside.{wordSize, pastWord, pastLong, words, Alike, SumsTo}
 use Rattle.block.specs.declared.LongSum.{LongSum}
 
 -- a sum that is more by a multiple of 0xFFFF
@@ -98,11 +99,11 @@ pub folded-long : (sum last carry : ℕ) → sum ≡ last / pastWord + last % pa
 folded-long sum last carry e = alike-less sum (last + carry) (65537 * (last / pastWord)) (omega arith) (λ h. omega arith)
 
 -- two words more, as one of 64 bits
-words-two : (b : List ℕ) (i : ℕ) → words b (i + 2) ≡ words b i + (wordAt b (wordSize * i) + wordAt b (wordSize * (i + 1)))
+words-two : (b : List ℕ) (i : ℕ) → words b (i + 2) ≡ words b i + (le32 b (wordSize * i) + le32 b (wordSize * (i + 1)))
 unfolding words
 words-two b i = rw (add-two, add-one) (omega arith)
 
-pub two-more : (b : List ℕ) (i low high : ℕ) (s r : LongSum) → SumsTo b i s → low ≡ wordAt b (wordSize * i) → high ≡ wordAt b (wordSize * (i + 1))
+pub two-more : (b : List ℕ) (i low high : ℕ) (s r : LongSum) → SumsTo b i s → low ≡ le32 b (wordSize * i) → high ≡ le32 b (wordSize * (i + 1))
     → r .words + pastLong * r .carry ≡ s .words + s .carry + (low + high * pastWord) → r .carry ≤ 1
     → SumsTo b (i + 2) r
 two-more b i low high s r f d e is one =

@@ -11,10 +11,11 @@ use lib.Dec.{ltb, eqb}
 use lib.ListN.{length, drop, drop-of-length-le}
 use lib.Seq.{drop-cons}
 use borrow.Author.Tests.{eqb-true, eq-eqb, ltb-true, lt-ltb}
-use Rattle.wire.specs.Numbers.{byteAt}
+use Rattle.wire.specs.Numbers.{byteAt, le32}
+use Rattle.wire.proofs.Laws.{le32-is}
 use Rattle.block.specs.Sum.{rightSum, carried, sumFrom, sumOk}
 use Rattle.block.specs.Block.{blockSize}
-use Rattle.block.specs.Inside.{wordSize, blockWords, wordAt, words, Alike}
+use Rattle.block.specs.Inside.{wordSize, blockWords, words, Alike}
 use Rattle.rows.proofs.Laws.{same-flag, both-true, both-of}
 use Rattle.block.proofs.Alike.{alike-less, alike-same, alike-on, alike-both, alike-test}
 
@@ -98,12 +99,13 @@ module _ (b : List ℕ) (bytes : (i : ℕ) → byteAt b i < 256) where
   half i = omega (arith, bytes i, bytes (i + 1))
 
   summed-more : (n : ℕ) → wordSize * n + wordSize ≤ length b → Summed b n → Summed b (suc n)
-  unfolding sumFrom words wordAt
+  unfolding sumFrom words
   summed-more n h p =
       let at : ℕ = wordSize * n in
       let high : ℕ = byteAt b at * 256 + byteAt b (at + 1) in
       let low : ℕ = byteAt b (at + 2) * 256 + byteAt b (at + 3) in
-      let more : ℕ = 256 * wordAt b at in
+      let more : ℕ = 256 * le32 b at in
+      let weights = le32-is b at in
       let times : ℕ = byteAt b (at + 1) + 256 * byteAt b (at + 2) + 65537 * byteAt b (at + 3) in
       let e : wordSize * suc n ≡ at + wordSize = omega arith in
       let all : 256 * words b (suc n) ≡ 256 * words b n + more = omega arith in

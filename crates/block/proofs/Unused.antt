@@ -9,10 +9,11 @@ use lib.Dec.{eqb}
 use lib.ListN.{length}
 use borrow.Author.Tests.{eqb-true, eq-eqb, ne-eqb}
 use Rattle.rows.proofs.Laws.{same-flag, both-true, both-of}
-use Rattle.wire.specs.Numbers.{byteAt}
+use Rattle.wire.specs.Numbers.{byteAt, le32}
+use Rattle.wire.proofs.Laws.{le32-is}
 use Rattle.wire.specs.Parts.{allZero}
 use Rattle.block.specs.Block.{blockSize, switchesAt}
-use Rattle.block.specs.Inside.{wordSize, switchesWord, wordAt, zeroFrom}
+use Rattle.block.specs.Inside.{wordSize, switchesWord, zeroFrom}
 use Rattle.block.proofs.Sums.{four}
 
 -- an OR is 0 where both are
@@ -35,10 +36,9 @@ weighed k (suc x) y h = ne-eqb (k * suc x + y) 0 (λ e. omega arith) ∙ rw (ne-
 
 -- so a word is 0 where its bytes are
 word-none : (b : List ℕ) (at : ℕ)
-    → eqb (wordAt b at) 0 ≡ (eqb (byteAt b at) 0 && (eqb (byteAt b (at + 1)) 0 && (eqb (byteAt b (at + 2)) 0 && (eqb (byteAt b (at + 3)) 0 && true))))
-unfolding wordAt
+    → eqb (le32 b at) 0 ≡ (eqb (byteAt b at) 0 && (eqb (byteAt b (at + 1)) 0 && (eqb (byteAt b (at + 2)) 0 && (eqb (byteAt b (at + 3)) 0 && true))))
 word-none b at =
-    let split : wordAt b at ≡ 1 * byteAt b at + (256 * byteAt b (at + 1) + (65536 * byteAt b (at + 2) + (16777216 * byteAt b (at + 3) + 0))) = omega arith in
+    let split : le32 b at ≡ 1 * byteAt b at + (256 * byteAt b (at + 1) + (65536 * byteAt b (at + 2) + (16777216 * byteAt b (at + 3) + 0))) = omega (arith, le32-is b at) in
     rw (
       split,
       weighed 1 (byteAt b at) _ (omega arith),
@@ -48,7 +48,7 @@ word-none b at =
     )
 
 -- the words from i on are zero where word i is, and those after it
-front : (b : List ℕ) (i : ℕ) → length b ≡ blockSize → i < switchesWord → zeroFrom b i ≡ (eqb (wordAt b (wordSize * i)) 0 && zeroFrom b (i + 1))
+front : (b : List ℕ) (i : ℕ) → length b ≡ blockSize → i < switchesWord → zeroFrom b i ≡ (eqb (le32 b (wordSize * i)) 0 && zeroFrom b (i + 1))
 unfolding allZero
 front b i long h =
     let at : ℕ = wordSize * i in
@@ -58,7 +58,7 @@ front b i long h =
     rw (bytes, four b at (omega arith), next, word-none b at) (simp (and-assoc, and-true))
 
 -- the loop: what was seen so far and what is left say together what is asked
-pub zeros-more : (b : List ℕ) (from some i w : ℕ) → length b ≡ blockSize → i < switchesWord → w ≡ wordAt b (wordSize * i)
+pub zeros-more : (b : List ℕ) (from some i w : ℕ) → length b ≡ blockSize → i < switchesWord → w ≡ le32 b (wordSize * i)
     → (eqb some 0 && zeroFrom b i) ≡ zeroFrom b from → (eqb (bitOr some w) 0 && zeroFrom b (i + 1)) ≡ zeroFrom b from
 zeros-more b from some i w long h e so-far =
     rw (or-none some w) (and-assoc (eqb some 0) (eqb w 0) (zeroFrom b (i + 1)) ∙ rw (e, ← front b i long h) so-far)

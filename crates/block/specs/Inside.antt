@@ -4,7 +4,7 @@ use Prim.Native.Nat.{ℕ, zero, suc, _+_, _*_, _-_, _/_, _≤_, _<_}
 use mathlib.Core.Bool.{Bool}
 use mathlib.Core.Path.{_≡_}
 use mathlib.Core.List.{List}
-use Rattle.wire.specs.Numbers.{byteAt}
+use Rattle.wire.specs.Numbers.{le32}
 use Rattle.wire.specs.Parts.{part, allZero}
 use Rattle.block.specs.Sum.{rightSum}
 use Rattle.block.specs.Block.{blockSize, switchesAt}
@@ -18,10 +18,6 @@ wordSize = 4
 abbrev pub pastWord : ℕ
 pastWord = 4294967296
 
--- the largest word
-abbrev pub mostWord : ℕ
-mostWord = pastWord - 1
-
 -- one more than the largest 64-bit word
 abbrev pub pastLong : ℕ
 pastLong = pastWord * pastWord
@@ -34,14 +30,10 @@ blockWords = blockSize / wordSize
 abbrev pub switchesWord : ℕ
 switchesWord = switchesAt / wordSize
 
--- the word that begins at a place: its first byte counts least
-unfoldable pub wordAt : List ℕ → ℕ → ℕ
-wordAt b at = (byteAt b at + byteAt b (at + 1) * 256) + (byteAt b (at + 2) * 65536 + byteAt b (at + 3) * 16777216)
-
 -- the plain sum of the first n words
 unfoldable pub words : List ℕ → ℕ → ℕ
 words b zero = 0
-words b (suc n) = words b n + wordAt b (wordSize * n)
+words b (suc n) = words b n + le32 b (wordSize * n)
 
 -- the words from one on, up to the switches, are zero
 abbrev pub zeroFrom : List ℕ → ℕ → Bool

@@ -6,7 +6,7 @@ ghost use lib.Dec.{ltb, eqb};
 ghost use lib.ListN.{length};
 ghost use Rattle.block.specs.Sum.{rightSum};
 ghost use Rattle.block.specs.Block.{blockSize, entriesRoom, placeInBlock, filledOk, frameOk};
-ghost use Rattle.block.specs.Inside.{wordSize, mostWord, pastLong, blockWords, switchesWord, wordAt, words, zeroFrom, Alike, SumsTo};
+ghost use Rattle.block.specs.Inside.{wordSize, pastLong, blockWords, switchesWord, words, zeroFrom, Alike, SumsTo};
 
 // Bytes of a block.
 pub const BLOCK_SIZE: usize = 512;
@@ -20,7 +20,8 @@ pub const SWITCHES_AT: usize = 508;
 // The bytes between, in which the entries stand.
 pub const ENTRIES_ROOM: usize = SWITCHES_AT - ENTRIES_AT;
 
-// Bytes of a word.
+// Bytes of a word. Words are read in memory's order, so that the compiler takes a sum or an OR of words for wide ones: neither a
+// test for zero nor one for a multiple of 0xFFFF minds the order of bytes.
 const WORD_SIZE: usize = 4;
 
 // The word in which the switches stand.
@@ -37,15 +38,6 @@ fn wide(x: u8) -> u32
     ensures { λ r. ⌜ (r ≡ x) × (r < 256) ⌝ }
 {
     x as u32
-}
-
-// The word that begins at `at`, its first byte the one that counts least: so the compiler takes it for one load, and a sum or an
-// OR of words for wide ones. Neither a test for zero nor one for a multiple of 0xFFFF minds the order of bytes.
-fn word(b: &[u8], at: usize) -> u32
-    requires { ⌜ at + wordSize ≤ length (now b) ⌝ }
-    ensures { λ r. ⌜ (r ≡ wordAt (now (b .entry)) at) × (r ≤ mostWord) ⌝ }
-{
-    (wide(b[at]) + wide(b[at + 1]) * 256) + (wide(b[at + 2]) * 65536 + wide(b[at + 3]) * 16777216)
 }
 
 // A sum of 64-bit words, and the carry out of its last addition.
@@ -82,8 +74,8 @@ fn add_two(s: LongSum, b: &[u8], i: usize) -> LongSum
     requires { ⌜ SumsTo (now b) i s ⌝ }
     ensures { λ r. ⌜ SumsTo (now (b .entry)) (i + 2) r ⌝ }
 {
-    let low = word(b, WORD_SIZE * i) as u64;
-    let high = word(b, WORD_SIZE * (i + 1)) as u64;
+    let low = wire::le32(b, WORD_SIZE * i) as u64;
+    let high = wire::le32(b, WORD_SIZE * (i + 1)) as u64;
     add(s, low + high * PAST_WORD)
 }
 
@@ -134,7 +126,7 @@ fn zero_from(b: &[u8], from: usize) -> bool
     let mut some: u32 = 0;
     let mut i = from;
     while i < SWITCHES_WORD {
-        some = some | word(b, WORD_SIZE * i);
+        some = some | wire::le32(b, WORD_SIZE * i);
         i += 1;
     }
     some == 0

@@ -15,7 +15,7 @@ use Rattle.entry.proofs.route.group_at.Reads as group-at
 use Rattle.entry.proofs.route.is_rp.Reads as is-rp
 use Rattle.entry.proofs.route.prune_sent.Reads as prune-sent
 use Rattle.entry.proofs.route.in_map.Reads as in-map
-use Rattle.entry.proofs.route.whole_map.Reads as whole-map
+use Rattle.entry.proofs.route.outside_map.Reads as outside-map
 use Rattle.entry.proofs.route.route_ok.Reads as route-ok
 
 pub interface-at-determined : (κs : _) (a : _) (x y : _) (e f : _) → interface-at.Post κs a x e → interface-at.Post κs a y f → x ≡ y
@@ -60,8 +60,8 @@ prune-sent-determined κs a x y e f p q = both-are p q
 pub in-map-determined : (κs : _) (a : _) (x y : _) (e f : _) → in-map.Post κs a x e → in-map.Post κs a y f → x ≡ y
 in-map-determined κs a x y e f p q = both-are p q
 
-pub whole-map-determined : (κs : _) (a : _) (x y : _) (e f : _) → whole-map.Post κs a x e → whole-map.Post κs a y f → x ≡ y
-whole-map-determined κs a x y e f p q = both-are p q
+pub outside-map-determined : (κs : _) (a : _) (x y : _) (e f : _) → outside-map.Post κs a x e → outside-map.Post κs a y f → x ≡ y
+outside-map-determined κs a x y e f p q = both-are p q
 
 pub route-ok-determined : (κs : _) (a : _) (x y : _) (e f : _) → route-ok.Post κs a x e → route-ok.Post κs a y f → x ≡ y
 route-ok-determined κs a x y e f p q = both-are p q

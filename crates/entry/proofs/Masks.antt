@@ -1,26 +1,32 @@
 -- The mask of a prefix, and what it leaves of an address.
-use Prim.Native.Nat.{ℕ, _+_, _*_, _/_, _%_, _-_, _^_, _≤_, _<_}
+use Prim.Native.Nat.{ℕ, suc, _+_, _*_, _/_, _%_, _-_, _^_, _≤_, _<_}
 use mathlib.Core.Bool.{Bool, true, false}
+use mathlib.Core.List.{List}
 use mathlib.Core.Path.{_≡_, refl, sym, ap, _∙_}
 use native.Mathlib.Omega.{arith}
-use native.Mathlib.Nat.{one-mul, zero-mul, mul-mod-left, eq-of-mul-eq-mul-right}
-use lib.Pow.{pow-pos, pow-mono, shl-exact, shl-shr, low, mod-pow-add, shr-mod, le-ones, lt-of-le-ones}
+use native.Mathlib.Nat.{zero-mul, mul-comm, mul-suc, div-eq-of-lt, mod-lt, mul-mod-left, eq-of-mul-eq-mul-right}
+use lib.Pow.{pow-pos, pow-mono, shl-exact, shl-shr, low, mod-pow-add, shr-mod, split, pow-sub-lt}
 use lib.Bits.{bitAnd, and-high}
-use lib.Dec.{leb, eqb}
-use borrow.Author.Tests.{lt-ltb, le-leb, ltb-true, leb-true, eq-eqb, ne-eqb, eqb-true, eqb-false}
+use lib.Dec.{eqb}
+use borrow.Author.Tests.{lt-ltb, ltb-true, eq-eqb, ne-eqb, eqb-true, eqb-false}
 use Rattle.rows.proofs.Laws.{same-flag}
+use Rattle.wire.specs.Numbers.{be64, le, le64, octets, bytes, bytes64}
+use Rattle.wire.proofs.Laws.{be-bytes, be-lt, octets-bytes, same-common}
 use Rattle.entry.specs.Interface.{mostInterfaces}
 use Rattle.entry.specs.Prefix.{addressBits, hosts, samePrefix, zeroPast}
-use Rattle.entry.specs.Route.{mapOk}
+use Rattle.entry.specs.Route.{mapOk, outsideMap}
 
 -- ones shifted up by k: ones in all bits but the last k
-pub ones-shifted : (k : ℕ) → k ≤ addressBits → 4294967295 * 2 ^ k % 2 ^ addressBits ≡ 2 ^ addressBits - 2 ^ k
-ones-shifted k h =
-    let P : ℕ = 2 ^ k in
-    let pos : 0 < P = pow-pos k in
-    let top : P ≤ 2 ^ addressBits = pow-mono h in
-    let e : 4294967295 * P ≡ (P - 1) * 2 ^ addressBits + (2 ^ addressBits - P) = omega arith in
-    rw e (low (P - 1) addressBits (omega arith))
+one-less : (a b : ℕ) → 0 < b → a * b ≡ (b - 1) * a + a
+one-less a b h = let e : b ≡ suc (b - 1) = omega arith in ap (λ (n : ℕ). a * n) e ∙ mul-suc a (b - 1) ∙ ap (λ (n : ℕ). n + a) (mul-comm a (b - 1))
+
+all-less : (B P : ℕ) → 0 < P → P ≤ B → (B - 1) * P ≡ (P - 1) * B + (B - P)
+all-less B P h k = omega (arith, one-less B P h, one-less P B (omega arith), mul-comm B P)
+
+pub ones-shifted : (w k : ℕ) → k ≤ w → (2 ^ w - 1) * 2 ^ k % 2 ^ w ≡ 2 ^ w - 2 ^ k
+ones-shifted w k h =
+    let some : 2 ^ w - 2 ^ k < 2 ^ w = pow-sub-lt w (pow-pos k) in
+    rw (all-less (2 ^ w) (2 ^ k) (pow-pos k) (pow-mono h)) (low (2 ^ k - 1) w some)
 
 -- two tests that hold together are the same test
 pub same-test : (a b c d : ℕ) → (a ≡ b → c ≡ d) → (c ≡ d → a ≡ b) → eqb a b ≡ eqb c d
@@ -43,7 +49,7 @@ mask-none bits e = rw e
 
 pub mask-some : (bits : ℕ) → 4294967295 * 2 ^ (addressBits - bits) % 2 ^ addressBits ≡ 2 ^ addressBits - hosts bits
 unfolding hosts
-mask-some bits = ones-shifted (addressBits - bits) (omega arith)
+mask-some bits = ones-shifted addressBits (addressBits - bits) (omega arith)
 
 -- past all of an address there is no bit
 pub none-past : (bits a : ℕ) → addressBits < bits → true ≡ zeroPast bits a
@@ -65,24 +71,38 @@ shifted-past bits a h k =
     (λ e. eq-of-mul-eq-mul-right (2 ^ bits) some (a % 2 ^ j) 0 (e ∙ sym (zero-mul (2 ^ bits))))
     (λ e. ap (λ (m : ℕ). m * 2 ^ bits) e ∙ zero-mul (2 ^ bits)))
 
--- the map of all interfaces: of 64, and of fewer
-pub whole-64 : (n : ℕ) → n ≡ mostInterfaces → 18446744073709551615 ≡ 2 ^ n - 1
-whole-64 n e = rw e
+-- the bits of a map that no interface has: none of 64, and ones shifted up past the last of fewer
+pub outside-none : (n : ℕ) → n ≡ mostInterfaces → 0 ≡ outsideMap n
+unfolding le bytes
+outside-none n e = rw e
 
-one-shifted : (n : ℕ) → n ≤ mostInterfaces → (n ≡ mostInterfaces → ⊥) → 1 * 2 ^ n % 2 ^ 64 ≡ 2 ^ n
-one-shifted n h other = shl-exact {a = 1} 1 n 64 (omega arith) (omega arith) ∙ one-mul (2 ^ n)
+pub outside-some : (n v : ℕ) → n ≤ mostInterfaces → v ≡ le64 (bytes64 (18446744073709551615 * 2 ^ n % 2 ^ 64)) 0 → v ≡ outsideMap n
+outside-some n v h e = e ∙ ap (λ (x : ℕ). le64 (bytes64 x) 0) (ones-shifted mostInterfaces n h)
 
-pub whole-some : (n : ℕ) → n ≤ mostInterfaces → (n ≡ mostInterfaces → ⊥) → 1 ≤ 1 * 2 ^ n % 2 ^ 64
-whole-some n h other = rw (one-shifted n h other) (pow-pos n)
+-- a map that has none of them
+none-high : (n map : ℕ) → n ≤ mostInterfaces → map < 2 ^ 64 → eqb (bitAnd map (2 ^ 64 - 2 ^ n)) 0 ≡ mapOk n map
+none-high n map h k =
+    let j : ℕ = 64 - n in
+    let P : ℕ = 2 ^ n in
+    let pos : 0 < P = pow-pos n in
+    let whole : 64 ≡ j + n = omega arith in
+    let back : j + n ≡ 64 = omega arith in
+    let left : bitAnd map (2 ^ 64 - P) ≡ map / P * P =
+    ap (λ (w : ℕ). bitAnd map (2 ^ w - P)) whole ∙ and-high map j n ∙ ap (λ (x : ℕ). x * P) (shr-mod j n (rw back k)) in
+    rw left
+    (same-flag (eqb (map / P * P) 0) (mapOk n map)
+    (λ t. let z : map / P * P ≡ 0 = eqb-true (map / P * P) 0 t in let w = split map n in let l = mod-lt map pos in lt-ltb map P (omega arith))
+    (λ t. let z : map / P ≡ 0 = div-eq-of-lt (ltb-true map P t) in eq-eqb (map / P * P) 0 (rw z (zero-mul P))))
 
-pub whole-fewer : (n : ℕ) → n ≤ mostInterfaces → (n ≡ mostInterfaces → ⊥) → 1 * 2 ^ n % 2 ^ 64 - 1 ≡ 2 ^ n - 1
-whole-fewer n h other = rw (one-shifted n h other)
-
--- a map without a bit past it, and one with one
-pub map-within : (n whole map : ℕ) → whole ≡ 2 ^ n - 1 → leb map whole ≡ mapOk n map
-map-within n whole map e =
-    same-flag (leb map whole) (mapOk n map) (λ t. lt-ltb map (2 ^ n) (lt-of-le-ones n (rw e at (leb-true map whole t))))
-    (λ t. le-leb map whole (rw e (le-ones n (ltb-true map (2 ^ n) t))))
+pub map-outside : (n bits m : ℕ) (s : List ℕ) (at : ℕ) → n ≤ mostInterfaces → bits ≡ outsideMap n → m ≡ le64 s at → octets 3 s at
+    → eqb (bitAnd m bits) 0 ≡ mapOk n (be64 s at)
+map-outside n bits m s at h e f o =
+    let v : ℕ = 2 ^ 64 - 2 ^ n in
+    let fits : v < 2 ^ 64 = pow-sub-lt 64 (pow-pos n) in
+    rw (e, f)
+    (same-common 3 s (bytes64 v) at 0 o (octets-bytes 3 v fits)
+    ∙ ap (λ (x : ℕ). eqb (bitAnd (be64 s at) x) 0) (be-bytes 3 v fits)
+    ∙ none-high n (be64 s at) h (be-lt 3 s at o))
 
 module _ (bits : ℕ) (short : bits ≤ addressBits) where
   mask-eq : 2 ^ addressBits - hosts bits ≡ 2 ^ (bits + (addressBits - bits)) - 2 ^ (addressBits - bits)

@@ -1,19 +1,22 @@
 -- The rules on an entry, those on a route in the groups in which the code looks at them: a law for each way out of a function.
-use Prim.Native.Nat.{ℕ, zero, suc, _-_, _^_, _≤_, _<_}
+use Prim.Native.Nat.{ℕ, zero, suc, _+_, _≤_, _<_}
 use mathlib.Core.Bool.{Bool, true, false, not, _&&_, _||_, and-true, and-false, and-assoc, or-true}
+use mathlib.Core.List.{List}
 use mathlib.Core.Path.{_≡_, refl, sym, _∙_}
 use native.Mathlib.Omega.{arith}
+use lib.Bits.{bitAnd}
 use lib.Dec.{leb, eqb}
-use borrow.Author.Tests.{lt-ltb, le-ltb, le-leb, lt-leb, ne-eqb, not-true, not-false}
+use borrow.Author.Tests.{lt-ltb, le-ltb, lt-leb, eq-eqb, ne-eqb, not-true, not-false}
 use Rattle.rows.proofs.Laws.{neither-of}
+use Rattle.wire.specs.Numbers.{be64, le64, octets}
 use Rattle.wire.specs.Addresses.{unicast, allOnes}
 use Rattle.entry.specs.declared.route.Route.{Route}
 use Rattle.entry.specs.declared.interface.Interface.{Interface}
 use Rattle.entry.specs.Interface.{mostInterfaces, interfaceOk}
 use Rattle.entry.specs.Prefix.{addressBits, zeroPast}
-use Rattle.entry.specs.Route.{sourceAndGroup, groupOnly, sourceOnly, unknown, kindOk, lengthOk, flagsOk, groupOk, incomingOk, upstreamOk, mapOk, routeOk}
+use Rattle.entry.specs.Route.{sourceAndGroup, groupOnly, sourceOnly, unknown, kindOk, lengthOk, flagsOk, groupOk, incomingOk, upstreamOk, mapOk, outsideMap, routeAt, routeOk}
 use Rattle.entry.specs.Inside.{fitsKind, zerosOk, upwardOk, mapsOk}
-use Rattle.entry.proofs.Masks.{map-within}
+use Rattle.entry.proofs.Masks.{map-outside}
 
 -- an interface whose address is not unicast, and any other
 module _ (i : Interface) (address : ℕ) (x : Bool) (ea : address ≡ i .address) (told : x ≡ unicast address) where
@@ -81,22 +84,26 @@ module _ (interfaces : ℕ) (r : Route) (incoming upstream : ℕ) (ei : incoming
         rw (← ei, ← eu, lt-ltb incoming interfaces near, known, ← e, f, g, same) (simp and-true)
 
 -- the maps, one after the other
-module _ (n whole : ℕ) (r : Route) (all : whole ≡ 2 ^ n - 1) (forward : ℕ) (ef : forward ≡ r .forward) where
-  within : (map : ℕ) → map ≤ whole → mapOk n map ≡ true
-  within map h = sym (map-within n whole map all) ∙ le-leb map whole h
+module _ (n bits : ℕ) (s : List ℕ) (at : ℕ) (few : n ≤ mostInterfaces) (none : bits ≡ outsideMap n) where
+  within : (m i : ℕ) → m ≡ le64 s i → octets 3 s i → bitAnd m bits ≡ 0 → mapOk n (be64 s i) ≡ true
+  within m i e o h = sym (map-outside n bits m s i few none e o) ∙ eq-eqb (bitAnd m bits) 0 h
 
-  past : (map : ℕ) → whole < map → mapOk n map ≡ false
-  past map h = sym (map-within n whole map all) ∙ lt-leb map whole h
+  past : (m i : ℕ) → m ≡ le64 s i → octets 3 s i → (bitAnd m bits ≡ 0 → ⊥) → mapOk n (be64 s i) ≡ false
+  past m i e o h = sym (map-outside n bits m s i few none e o) ∙ ne-eqb (bitAnd m bits) 0 h
 
-  pub maps-first : whole < forward → false ≡ mapsOk n r
-  maps-first h = rw (← ef, past forward h)
+  module _ (f : ℕ) (ef : f ≡ le64 s (at + 32)) (of : octets 3 s (at + 32)) where
+    pub maps-first : (bitAnd f bits ≡ 0 → ⊥) → false ≡ mapsOk n (routeAt s at)
+    unfolding routeAt
+    maps-first h = rw (past f (at + 32) ef of h)
 
-  module _ (pruned : ℕ) (ep : pruned ≡ r .pruned) (first : forward ≤ whole) where
-    pub maps-second : whole < pruned → false ≡ mapsOk n r
-    maps-second h = rw (← ef, ← ep, within forward first, past pruned h)
+    module _ (first : bitAnd f bits ≡ 0) (p : ℕ) (ep : p ≡ le64 s (at + 40)) (op : octets 3 s (at + 40)) where
+      pub maps-second : (bitAnd p bits ≡ 0 → ⊥) → false ≡ mapsOk n (routeAt s at)
+      unfolding routeAt
+      maps-second h = rw (within f (at + 32) ef of first, past p (at + 40) ep op h)
 
-    pub maps-third : (stopped : ℕ) → stopped ≡ r .stopped → pruned ≤ whole → leb stopped whole ≡ mapsOk n r
-    maps-third stopped es h = rw (← ef, ← ep, ← es, within forward first, within pruned h) (map-within n whole stopped all)
+      pub maps-third : (m : ℕ) → bitAnd p bits ≡ 0 → m ≡ le64 s (at + 48) → octets 3 s (at + 48) → eqb (bitAnd m bits) 0 ≡ mapsOk n (routeAt s at)
+      unfolding routeAt
+      maps-third m h em om = rw (within f (at + 32) ef of first, within p (at + 40) ep op h) (map-outside n bits m s (at + 48) few none em om)
 
 -- the groups together are all the rules: the group's alone is looked at before its turn
 reordered : (k l f z y p g u i a b c : Bool) → (k && l && f && z && y && p && g && u && i && a && b && c)

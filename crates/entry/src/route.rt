@@ -4,10 +4,10 @@ use crate::prefix::ADDRESS_BITS;
 use crate::prefix::zero_past;
 ghost use mathlib.Core.Path.{_≡_};
 ghost use mathlib.Core.Bool.{_&&_};
-ghost use Prim.Native.Nat.{_+_, _-_, _^_, _≤_, _<_};
+ghost use Prim.Native.Nat.{_+_, _≤_, _<_};
 ghost use lib.ListN.{length};
 ghost use Rattle.entry.specs.Interface.{mostInterfaces};
-ghost use Rattle.entry.specs.Route.{routeSize, routeAt, isRp, pruneSent, inMap, routeOk, kindOk, lengthOk, flagsOk, groupOk};
+ghost use Rattle.entry.specs.Route.{routeSize, routeAt, isRp, pruneSent, inMap, outsideMap, routeOk, kindOk, lengthOk, flagsOk, groupOk};
 ghost use Rattle.entry.specs.Inside.{fitsKind, zerosOk, upwardOk, mapsOk};
 
 // Bytes of a route entry.
@@ -195,35 +195,36 @@ fn upward_ok(s: &[u8], at: usize, interfaces: u16) -> bool
     (upstream == 0) | wire::all_ones(upstream)
 }
 
-// The map of all interfaces, where there are so many.
-pub fn whole_map(interfaces: u16) -> u64
+// The bits of a map that no interface has, where there are so many, in memory's order.
+pub fn outside_map(interfaces: u16) -> u64
     requires { ⌜ interfaces ≤ mostInterfaces ⌝ }
-    ensures { λ r. ⌜ r ≡ 2 ^ interfaces - 1 ⌝ }
+    ensures { λ r. ⌜ r ≡ outsideMap interfaces ⌝ }
 {
     if interfaces as usize == MOST_INTERFACES {
-        return ALL_BITS;
+        return 0;
     }
-    (1 << interfaces) - 1
+    wire::swapped64(ALL_BITS << interfaces)
 }
 
-// Whether no map has a bit past `whole`, the map of all interfaces. They are looked at one after the other: each is then one load.
-fn maps_ok(s: &[u8], at: usize, interfaces: u16, whole: u64) -> bool
-    requires { ⌜ (at + routeSize ≤ length (now s)) × (whole ≡ 2 ^ interfaces - 1) ⌝ }
+// Whether no map has a bit of `outside`, those that no interface has. They are looked at one after the other, in memory's order: each
+// is then one load.
+fn maps_ok(s: &[u8], at: usize, interfaces: u16, outside: u64) -> bool
+    requires { ⌜ (at + routeSize ≤ length (now s)) × (interfaces ≤ mostInterfaces) × (outside ≡ outsideMap interfaces) ⌝ }
     ensures { λ r. ⌜ r ≡ mapsOk interfaces (routeAt (now (s .entry)) at) ⌝ }
 {
-    if whole < wire::be64(s, at + 32) {
+    if wire::le64(s, at + 32) & outside != 0 {
         return false;
     }
-    if whole < wire::be64(s, at + 40) {
+    if wire::le64(s, at + 40) & outside != 0 {
         return false;
     }
-    wire::be64(s, at + 48) <= whole
+    wire::le64(s, at + 48) & outside == 0
 }
 
-// Whether the route whose bytes begin at `at` keeps every rule on it, where there are so many interfaces; `whole` is their map. It
-// is left at the first rule that it breaks, and what no rule looks at is not read.
-pub fn route_ok(s: &[u8], at: usize, interfaces: u16, whole: u64) -> bool
-    requires { ⌜ (at + routeSize ≤ length (now s)) × (interfaces ≤ mostInterfaces) × (whole ≡ 2 ^ interfaces - 1) ⌝ }
+// Whether the route whose bytes begin at `at` keeps every rule on it, where there are so many interfaces; `outside` is the bits of a
+// map that none of them has. It is left at the first rule that it breaks, and what no rule looks at is not read.
+pub fn route_ok(s: &[u8], at: usize, interfaces: u16, outside: u64) -> bool
+    requires { ⌜ (at + routeSize ≤ length (now s)) × (interfaces ≤ mostInterfaces) × (outside ≡ outsideMap interfaces) ⌝ }
     ensures { λ ok. ⌜ ok ≡ routeOk interfaces (routeAt (now (s .entry)) at) ⌝ }
 {
     if !kind_ok(kind_at(s, at), length_at(s, at), s[at + 2], group_at(s, at)) {
@@ -235,5 +236,5 @@ pub fn route_ok(s: &[u8], at: usize, interfaces: u16, whole: u64) -> bool
     if !upward_ok(s, at, interfaces) {
         return false;
     }
-    maps_ok(s, at, interfaces, whole)
+    maps_ok(s, at, interfaces, outside)
 }

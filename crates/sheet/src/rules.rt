@@ -50,14 +50,14 @@ fn routes_ok(b: &[u8], used: usize, interfaces: u16) -> bool
     requires { ⌜ (length (now b) ≡ blockSize) × (used ≤ entriesEach routeSize) × (interfaces ≤ mostInterfaces) ⌝ }
     ensures { λ r. ⌜ r ≡ entriesOk routeSize (routeRight interfaces) (now (b .entry)) used ⌝ }
 {
-    let whole = entry::whole_map(interfaces);
+    let outside = entry::outside_map(interfaces);
     let mut j: usize = 0;
     while j < used {
         if !entry::route_ok(
             b,
             block::ENTRIES_AT + entry::ROUTE_SIZE * j,
             interfaces,
-            whole,
+            outside,
         ) {
             return false;
         }

@@ -5,6 +5,9 @@ use Rattle.wire.proofs.Laws.{both-are}
 use Rattle.wire.proofs.be16.Reads as be16
 use Rattle.wire.proofs.be32.Reads as be32
 use Rattle.wire.proofs.be64.Reads as be64
+use Rattle.wire.proofs.le32.Reads as le32
+use Rattle.wire.proofs.le64.Reads as le64
+use Rattle.wire.proofs.swapped64.Reads as swapped64
 use Rattle.wire.proofs.put16.Reads as put16
 use Rattle.wire.proofs.put32.Reads as put32
 use Rattle.wire.proofs.put64.Reads as put64
@@ -22,6 +25,15 @@ be32-determined κs a x y e f p q = both-are p q
 
 pub be64-determined : (κs : _) (a : _) (x y : _) (e f : _) → be64.Post κs a x e → be64.Post κs a y f → x ≡ y
 be64-determined κs a x y e f p q = both-are p q
+
+pub le32-determined : (κs : _) (a : _) (x y : _) (e f : _) → le32.Post κs a x e → le32.Post κs a y f → x ≡ y
+le32-determined κs a x y e f p q = both-are (p .0) (q .0)
+
+pub le64-determined : (κs : _) (a : _) (x y : _) (e f : _) → le64.Post κs a x e → le64.Post κs a y f → x ≡ y
+le64-determined κs a x y e f p q = both-are (p .0) (q .0)
+
+pub swapped64-determined : (κs : _) (a : _) (x y : _) (e f : _) → swapped64.Post κs a x e → swapped64.Post κs a y f → x ≡ y
+swapped64-determined κs a x y e f p q = both-are p q
 
 pub put16-determined : (κs : _) (a : _) (x y : _) (e f : _) → put16.Post κs a x e → put16.Post κs a y f → now (e .0) ≡ now (f .0)
 put16-determined κs a x y e f p q = both-are p q

@@ -1,20 +1,16 @@
 -- `maps_ok`: left at the first map that has a bit too many.
-use Rattle.entry.specs.Route.{routeAt}
 use Rattle.entry.proofs.Rules.{maps-first, maps-second, maps-third}
 use borrow.Author.Needs.{needs}
 use Rattle.entry.proofs.route.maps_ok.Statement.{statement}
 use Rattle.entry.proofs.route.maps_ok.Tie as tie
 
 returns : tie.Need-returns
-unfolding routeAt
 returns c = search maps-first
 
 returns-2 : tie.Need-returns-2
-unfolding routeAt
 returns-2 c = search maps-second
 
 returns-3 : tie.Need-returns-3
-unfolding routeAt
 returns-3 c = search maps-third
 
 pub maps-ok-spec : {M : Type 1} → statement M

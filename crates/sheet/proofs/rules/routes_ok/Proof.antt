@@ -12,10 +12,10 @@ use Rattle.sheet.proofs.rules.routes_ok.Statement.{statement}
 use Rattle.sheet.proofs.rules.routes_ok.Tie as tie
 
 abbrev Inv-loop : tie.InvT-loop
-Inv-loop b used interfaces whole j₀ j = (j ≤ used) × (true ≡ entriesOk routeSize (routeRight interfaces) b j)
+Inv-loop b used interfaces outside j₀ j = (j ≤ used) × (true ≡ entriesOk routeSize (routeRight interfaces) b j)
 
 abbrev μ-loop : tie.MeasureT-loop
-μ-loop b used interfaces whole j₀ j = used - j
+μ-loop b used interfaces outside j₀ j = used - j
 
 loop-holds : tie.Need-loop-holds Inv-loop μ-loop
 unfolding every
