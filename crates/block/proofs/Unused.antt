@@ -4,30 +4,17 @@ use mathlib.Core.Bool.{Bool, true, _&&_, and-true, and-assoc}
 use mathlib.Core.List.{List}
 use mathlib.Core.Path.{_≡_, refl, sym, ap, _∙_}
 use native.Mathlib.Omega.{arith}
-use lib.Bits.{bitOr, bitAnd, or-add-and, and-le-l, and-le-r}
+use lib.Bits.{bitOr}
 use lib.Dec.{eqb}
 use lib.ListN.{length}
-use borrow.Author.Tests.{eqb-true, eq-eqb, ne-eqb}
-use Rattle.rows.proofs.Laws.{same-flag, both-true, both-of}
-use Rattle.wire.specs.Numbers.{byteAt, le32}
-use Rattle.wire.proofs.Laws.{le32-is}
+use borrow.Author.Tests.{ne-eqb}
+use Rattle.wire.specs.Numbers.{byteAt}
+use Rattle.wire.specs.Inside.{le32}
+use Rattle.wire.proofs.Laws.{or-none, le32-is}
 use Rattle.wire.specs.Parts.{allZero}
 use Rattle.block.specs.Block.{blockSize, switchesAt}
 use Rattle.block.specs.Inside.{wordSize, switchesWord, zeroFrom}
 use Rattle.block.proofs.Sums.{four}
-
--- an OR is 0 where both are
-or-none : (a b : ℕ) → eqb (bitOr a b) 0 ≡ (eqb a 0 && eqb b 0)
-or-none a b =
-    let both : bitOr a b + bitAnd a b ≡ a + b = or-add-and a b in
-    let least : bitAnd a b ≤ a = and-le-l a b in
-    let less : bitAnd a b ≤ b = and-le-r a b in
-    same-flag (eqb (bitOr a b) 0) (eqb a 0 && eqb b 0)
-    (λ e. let z : bitOr a b ≡ 0 = eqb-true (bitOr a b) 0 e in both-true (eqb a 0) (eqb b 0) (eq-eqb a 0 (omega arith)) (eq-eqb b 0 (omega arith)))
-    (λ e. let p = both-of (eqb a 0) (eqb b 0) e in
-    let x : a ≡ 0 = eqb-true a 0 (p .0) in
-    let y : b ≡ 0 = eqb-true b 0 (p .1) in
-    eq-eqb (bitOr a b) 0 (omega arith))
 
 -- a sum by weights is 0 where its terms are
 weighed : (k x y : ℕ) → 0 < k → eqb (k * x + y) 0 ≡ (eqb x 0 && eqb y 0)

@@ -10,11 +10,13 @@ use lib.Bits.{bitAnd, and-high}
 use lib.Dec.{eqb}
 use borrow.Author.Tests.{lt-ltb, ltb-true, eq-eqb, ne-eqb, eqb-true, eqb-false}
 use Rattle.rows.proofs.Laws.{same-flag}
-use Rattle.wire.specs.Numbers.{be64, le, le64, octets, bytes, bytes64}
+use Rattle.wire.specs.Numbers.{be64, bytes, bytes64}
+use Rattle.wire.specs.Inside.{le, le64, octets}
 use Rattle.wire.proofs.Laws.{be-bytes, be-lt, octets-bytes, same-common}
 use Rattle.entry.specs.Interface.{mostInterfaces}
 use Rattle.entry.specs.Prefix.{addressBits, hosts, samePrefix, zeroPast}
-use Rattle.entry.specs.Route.{mapOk, outsideMap}
+use Rattle.entry.specs.Route.{mapOk}
+use Rattle.entry.specs.Inside.{outsideMap}
 
 -- ones shifted up by k: ones in all bits but the last k
 one-less : (a b : ℕ) → 0 < b → a * b ≡ (b - 1) * a + a

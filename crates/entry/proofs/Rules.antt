@@ -8,14 +8,15 @@ use lib.Bits.{bitAnd}
 use lib.Dec.{leb, eqb}
 use borrow.Author.Tests.{lt-ltb, le-ltb, lt-leb, eq-eqb, ne-eqb, not-true, not-false}
 use Rattle.rows.proofs.Laws.{neither-of}
-use Rattle.wire.specs.Numbers.{be64, le64, octets}
+use Rattle.wire.specs.Numbers.{be64}
+use Rattle.wire.specs.Inside.{le64, octets}
 use Rattle.wire.specs.Addresses.{unicast, allOnes}
 use Rattle.entry.specs.declared.route.Route.{Route}
 use Rattle.entry.specs.declared.interface.Interface.{Interface}
 use Rattle.entry.specs.Interface.{mostInterfaces, interfaceOk}
 use Rattle.entry.specs.Prefix.{addressBits, zeroPast}
-use Rattle.entry.specs.Route.{sourceAndGroup, groupOnly, sourceOnly, unknown, kindOk, lengthOk, flagsOk, groupOk, incomingOk, upstreamOk, mapOk, outsideMap, routeAt, routeOk}
-use Rattle.entry.specs.Inside.{fitsKind, zerosOk, upwardOk, mapsOk}
+use Rattle.entry.specs.Route.{sourceAndGroup, groupOnly, sourceOnly, unknown, kindOk, lengthOk, flagsOk, groupOk, incomingOk, upstreamOk, mapOk, routeAt, routeOk}
+use Rattle.entry.specs.Inside.{outsideMap, fitsKind, zerosOk, upwardOk, mapsOk}
 use Rattle.entry.proofs.Masks.{map-outside}
 
 -- an interface whose address is not unicast, and any other

@@ -1,9 +1,12 @@
--- Inside: what only the contracts of this crate's own functions cite. No entry's promise rests on it, and a reader of the definitions may pass it over.
+-- Inside: what only the contracts of inner functions cite, here and in the crates above. No entry's promise rests on it, and a reader of the definitions may pass it over.
 -- Here: the rules on a route in the groups in which the code looks at them.
-use Prim.Native.Nat.{ℕ}
+use Prim.Native.Nat.{ℕ, _-_, _^_}
 use mathlib.Core.Bool.{Bool, _&&_}
 use lib.Dec.{eqb}
+use Rattle.wire.specs.Numbers.{bytes64}
+use Rattle.wire.specs.Inside.{le64}
 use Rattle.entry.specs.declared.route.Route.{Route}
+use Rattle.entry.specs.Interface.{mostInterfaces}
 use Rattle.entry.specs.Prefix.{zeroPast}
 use Rattle.entry.specs.Route.{lengthOk, flagsOk, groupOk, incomingOk, upstreamOk, mapOk}
 
@@ -22,3 +25,7 @@ upwardOk interfaces r = upstreamOk (r .incoming) (r .upstream) && incomingOk int
 -- the three maps
 abbrev pub mapsOk : ℕ → Route → Bool
 mapsOk interfaces r = mapOk interfaces (r .forward) && mapOk interfaces (r .pruned) && mapOk interfaces (r .stopped)
+
+-- the bits of a map that no interface has, where there are so many, in memory's order
+abbrev pub outsideMap : ℕ → ℕ
+outsideMap interfaces = le64 (bytes64 (2 ^ mostInterfaces - 2 ^ interfaces)) 0

@@ -1,11 +1,10 @@
 -- A route: 56 bytes of a route block.
-use Prim.Native.Nat.{ℕ, _+_, _-_, _/_, _%_, _^_}
+use Prim.Native.Nat.{ℕ, _+_, _/_, _%_, _^_}
 use mathlib.Core.Bool.{Bool, _&&_, _||_, not}
 use mathlib.Core.List.{List}
 use lib.Dec.{leb, ltb, eqb}
-use Rattle.wire.specs.Numbers.{byteAt, be16, be32, be64, le64, bytes64}
+use Rattle.wire.specs.Numbers.{byteAt, be16, be32, be64}
 use Rattle.wire.specs.Addresses.{unicast, multicast, allOnes}
-use Rattle.entry.specs.Interface.{mostInterfaces}
 use Rattle.entry.specs.Prefix.{addressBits, zeroPast}
 use Rattle.entry.specs.declared.route.Route.{Route}
 
@@ -89,10 +88,6 @@ upstreamOk incoming upstream = eqb upstream 0 || (not (eqb incoming unknown) && 
 -- bits without an interface are zero
 abbrev pub mapOk : ℕ → ℕ → Bool
 mapOk interfaces map = ltb map (2 ^ interfaces)
-
--- the bits of a map that no interface has, where there are so many, in memory's order
-abbrev pub outsideMap : ℕ → ℕ
-outsideMap interfaces = le64 (bytes64 (2 ^ mostInterfaces - 2 ^ interfaces)) 0
 
 -- every rule on a route by itself, where there are so many interfaces
 unfoldable pub routeOk : ℕ → Route → Bool

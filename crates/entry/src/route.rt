@@ -7,8 +7,8 @@ ghost use mathlib.Core.Bool.{_&&_};
 ghost use Prim.Native.Nat.{_+_, _≤_, _<_};
 ghost use lib.ListN.{length};
 ghost use Rattle.entry.specs.Interface.{mostInterfaces};
-ghost use Rattle.entry.specs.Route.{routeSize, routeAt, isRp, pruneSent, inMap, outsideMap, routeOk, kindOk, lengthOk, flagsOk, groupOk};
-ghost use Rattle.entry.specs.Inside.{fitsKind, zerosOk, upwardOk, mapsOk};
+ghost use Rattle.entry.specs.Route.{routeSize, routeAt, isRp, pruneSent, inMap, routeOk, kindOk, lengthOk, flagsOk, groupOk};
+ghost use Rattle.entry.specs.Inside.{outsideMap, fitsKind, zerosOk, upwardOk, mapsOk};
 
 // Bytes of a route entry.
 pub const ROUTE_SIZE: usize = 56;

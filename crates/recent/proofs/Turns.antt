@@ -1,12 +1,12 @@
 -- What each turn of the loops of `zero_from` and `seen` shows, the ways out of `check`, and the stores of `enter` put together.
 use Prim.Native.Nat.{ℕ, zero, suc, _+_, _-_, _≤_, _<_}
-use mathlib.Core.Path.{_≡_, refl, sym, _∙_}
+use mathlib.Core.Path.{_≡_, sym, _∙_}
 use mathlib.Core.Bool.{Bool, true, false, _&&_, _||_, and-true, and-assoc}
 use mathlib.Core.List.{List, [], _∷_, _++_}
 use native.Mathlib.Omega.{arith}
 use native.Mathlib.Numerals.{add-one}
-use borrow.Author.Tests.{eq-eqb, ne-eqb}
-use lib.Bits.{bitOr, or-add-and, and-le-r}
+use borrow.Author.Tests.{eq-eqb}
+use lib.Bits.{bitOr}
 use lib.Dec.{leb, ltb, eqb}
 use lib.ListN.{length, drop, set, length-append, drop-of-length-le}
 use lib.Seq.{drop-cons, sets-eq}
@@ -15,19 +15,13 @@ use Rattle.recent.specs.Layout.{clientSize, entryCount, listSize, used, 
 use Rattle.recent.specs.Inside.{Formed}
 use Rattle.recent.specs.Entries.{recentEntry, firstEntries, isOf, someIsOf, seenIn, grown, movedOn, enteredIn}
 use Rattle.wire.specs.Parts.{splice, allZero}
-use Rattle.wire.proofs.Laws.{length-bytes, length-splice, splice-join, splice-front}
-
--- no bit is set in two numbers together exactly where none is in either
-or-zero : (a b : ℕ) → eqb (bitOr a b) 0 ≡ (eqb a 0 && eqb b 0)
-or-zero zero b = refl
-or-zero (suc a) b =
-    rw (ne-eqb (bitOr (suc a) b) 0 (λ e. omega (arith, or-add-and (suc a) b, and-le-r (suc a) b)), ne-eqb (suc a) 0 (λ e. omega arith))
+use Rattle.wire.proofs.Laws.{or-none, length-bytes, length-splice, splice-join, splice-front}
 
 -- the bits of the bytes passed, and the bytes that are left
 module _ (s : List ℕ) (at i bits : ℕ) (so-far : allZero (drop at s) ≡ (eqb bits 0 && allZero (drop i s))) where
   pub zero-on : i < length s → allZero (drop at s) ≡ (eqb (bitOr bits (byteAt s i)) 0 && allZero (drop (i + 1) s))
   unfolding allZero
-  zero-on h = rw (so-far, drop-cons s i 0, add-one, or-zero) (sym (and-assoc (eqb bits 0) _ _))
+  zero-on h = rw (so-far, drop-cons s i 0, add-one, or-none) (sym (and-assoc (eqb bits 0) _ _))
 
   pub zero-ended : length s ≤ i → eqb bits 0 ≡ allZero (drop at s)
   unfolding allZero

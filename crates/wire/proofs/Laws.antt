@@ -7,19 +7,26 @@ use native.Mathlib.Omega.{arith}
 use native.Mathlib.Nat.{add-assoc, zero-add, add-zero, pow-suc, mod-lt, div-add-mod', div-lt-iff-lt-mul, one-le-pow, mul-comm, add-comm, zero-mul, suc-mul, mul-suc}
 use lib.Pow.{pow-add, pow-pos}
 use lib.Arith.{digits-lt}
-use lib.Bits.{bitAnd, and-block}
+use lib.Bits.{bitAnd, bitOr, and-le-r, or-add-and, and-block}
 use mathlib.Core.Bool.{Bool, true, false, _&&_}
 use borrow.Author.Tests.{leb-true, eqb-true, ne-eqb}
 use lib.Dec.{leb, eqb, lit≤}
 use lib.ListN.{length, take, drop, length-append, length-drop, List·getD-append}
 use lib.Seq.{take-at, drop-at, drop-drop, getD-take, getD-drop, getD-append-add, length-take-le}
 use Rattle.rows.proofs.Laws.{both-of}
-use Rattle.wire.specs.Numbers.{byteAt, be, le, le32, octets, bytes}
+use Rattle.wire.specs.Numbers.{byteAt, be, bytes}
+use Rattle.wire.specs.Inside.{le, le32, octets}
 use Rattle.wire.specs.Parts.{part, splice, wholeParts}
 
 -- two things equal to a third
 pub both-are : {A : Type 0} {x a b : A} → a ≡ x → b ≡ x → a ≡ b
 both-are p q = p ∙ sym q
+
+-- an OR is 0 exactly where both are
+pub or-none : (a b : ℕ) → eqb (bitOr a b) 0 ≡ (eqb a 0 && eqb b 0)
+or-none zero b = refl
+or-none (suc a) b =
+    rw (ne-eqb (bitOr (suc a) b) 0 (λ e. omega (arith, or-add-and (suc a) b, and-le-r (suc a) b)), ne-eqb (suc a) 0 (λ e. omega arith))
 
 -- the powers that widths bring
 double : (d : ℕ) → 2 ^ suc d ≡ 2 ^ d + 2 ^ d

@@ -1,6 +1,6 @@
 -- Numbers in bytes, big-endian, as messages, sheets and records hold them. One definition for every width: `d` stands
 -- for a width of 2 ^ d bytes, so 0, 1, 2 and 3 for 8, 16, 32 and 64 bits.
-use Prim.Native.Nat.{ℕ, zero, suc, _+_, _*_, _/_, _%_, _^_, _<_}
+use Prim.Native.Nat.{ℕ, zero, suc, _+_, _*_, _/_, _%_, _^_}
 use mathlib.Core.List.{List, [], _∷_, _++_}
 use lib.ListN.{getD}
 
@@ -41,21 +41,3 @@ bytes32 = bytes 2
 -- of 64 bits
 abbrev pub bytes64 : ℕ → List ℕ
 bytes64 = bytes 3
-
--- The same bytes in memory's order, where the first counts least: for tests that do not mind the order of bytes.
-unfoldable pub le : ℕ → List ℕ → ℕ → ℕ
-le zero s at = byteAt s at
-le (suc d) s at = le d s at + le d s (at + 2 ^ d) * 256 ^ (2 ^ d)
-
--- of 32 bits
-abbrev pub le32 : List ℕ → ℕ → ℕ
-le32 = le 2
-
--- of 64 bits
-abbrev pub le64 : List ℕ → ℕ → ℕ
-le64 = le 3
-
--- each of the 2 ^ d that begin at a place is a byte: below 256
-unfoldable pub octets : ℕ → List ℕ → ℕ → Type 0
-octets zero s at = byteAt s at < 256
-octets (suc d) s at = octets d s at × octets d s (at + 2 ^ d)

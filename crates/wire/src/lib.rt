@@ -2,7 +2,8 @@
 ghost use mathlib.Core.Path.{_≡_};
 ghost use Prim.Native.Nat.{_+_, _≤_, _<_};
 ghost use lib.ListN.{length};
-ghost use Rattle.wire.specs.Numbers.{be16, be32, be64, le32, le64, octets, bytes16, bytes32, bytes64};
+ghost use Rattle.wire.specs.Numbers.{be16, be32, be64, bytes16, bytes32, bytes64};
+ghost use Rattle.wire.specs.Inside.{le32, le64, octets};
 ghost use Rattle.wire.specs.Parts.{splice};
 ghost use Rattle.wire.specs.Addresses.{unicast, multicast, linkScoped, allOnes};
 

@@ -3,7 +3,8 @@ use Prim.Native.Nat.{ℕ, _+_, _*_, _<_}
 use mathlib.Core.List.{List}
 use mathlib.Core.Path.{_≡_, sym, _∙_}
 use native.Mathlib.Omega.{arith}
-use Rattle.wire.specs.Numbers.{byteAt, le32, octets}
+use Rattle.wire.specs.Numbers.{byteAt}
+use Rattle.wire.specs.Inside.{le32, octets}
 use Rattle.wire.proofs.Laws.{le32-is}
 use borrow.Author.Needs.{needs}
 use Rattle.wire.proofs.le32.Statement.{statement}

@@ -1,5 +1,5 @@
 -- `le64`: the two halves by their weights are what `le` computes to.
-use Rattle.wire.specs.Numbers.{le, octets}
+use Rattle.wire.specs.Inside.{le, octets}
 use borrow.Author.Needs.{needs}
 use Rattle.wire.proofs.le64.Statement.{statement}
 use Rattle.wire.proofs.le64.Tie as tie

@@ -4,7 +4,8 @@ use mathlib.Core.Path.{_≡_}
 use native.Mathlib.Nat.{div-div-eq-div-mul}
 use native.Mathlib.Omega.{arith}
 use lib.Pow.{field, mod-mod-pow}
-use Rattle.wire.specs.Numbers.{le, bytes, le32, bytes32}
+use Rattle.wire.specs.Numbers.{bytes, bytes32}
+use Rattle.wire.specs.Inside.{le, le32}
 use borrow.Author.Needs.{needs}
 use Rattle.wire.proofs.swapped32.Statement.{statement}
 use Rattle.wire.proofs.swapped32.Tie as tie

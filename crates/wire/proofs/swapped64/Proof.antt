@@ -1,5 +1,6 @@
 -- `swapped64`: the two halves, each in the other order, have changed places.
-use Rattle.wire.specs.Numbers.{le, bytes}
+use Rattle.wire.specs.Numbers.{bytes}
+use Rattle.wire.specs.Inside.{le}
 use borrow.Author.Needs.{needs}
 use Rattle.wire.proofs.swapped64.Statement.{statement}
 use Rattle.wire.proofs.swapped64.Tie as tie
