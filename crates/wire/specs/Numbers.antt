@@ -42,7 +42,7 @@ bytes32 = bytes 2
 abbrev pub bytes64 : ℕ → List ℕ
 bytes64 = bytes 3
 
--- The same bytes in memory's order, where the first counts least: for tests that do not mind the order of bytes.
+-- the same bytes as a number in memory's order, where the first counts least: for tests that do not mind the order of bytes
 unfoldable pub le : ℕ → List ℕ → ℕ → ℕ
 le zero s at = byteAt s at
 le (suc d) s at = le d s at + le d s (at + 2 ^ d) * 256 ^ (2 ^ d)
