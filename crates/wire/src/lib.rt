@@ -1,4 +1,4 @@
-// Numbers in bytes, big-endian; copying; classes of IPv4 addresses.
+// Numbers in bytes, big-endian, and in memory's order for tests that do not mind it; copying; classes of IPv4 addresses.
 ghost use mathlib.Core.Path.{_≡_};
 ghost use Prim.Native.Nat.{_+_, _≤_, _<_};
 ghost use lib.ListN.{length};
