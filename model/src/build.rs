@@ -2,6 +2,7 @@
 //! they are told, right or wrong.
 
 use crate::message::{AUGMENTED_BLOCK, HEADER, STANDARD, STANDARD_BLOCK};
+use crate::reply::Fields;
 use crate::sheet::{sum, Table, BLOCK, UNKNOWN};
 
 /// The fields of an interface entry as they stand in a sheet.
@@ -202,6 +203,22 @@ pub fn block(kind: u8, length: usize, filler: u8) -> Vec<u8> {
     let mut bytes = vec![filler; length];
     bytes[0] = kind;
     bytes[1..3].copy_from_slice(&(length as u16).to_be_bytes());
+    bytes
+}
+
+/// A Standard Response Block of these fields, zero where it always is.
+pub fn standard_with(fields: Fields) -> Vec<u8> {
+    let mut bytes = standard(0)[..4].to_vec();
+    for number in [fields.time, fields.incoming, fields.outgoing, fields.upstream] {
+        bytes.extend(number.to_be_bytes());
+    }
+    for count in [fields.input, fields.output, fields.total] {
+        bytes.extend(count.to_be_bytes());
+    }
+    for protocol in [fields.protocol, fields.multicast] {
+        bytes.extend(protocol.to_be_bytes());
+    }
+    bytes.extend([fields.ttl, 0, u8::from(fields.s) << 7 | fields.mask, fields.code]);
     bytes
 }
 
