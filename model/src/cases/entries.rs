@@ -22,7 +22,7 @@ use super::faults;
 use super::places::{assert_told, exchanged, exchanges, fillings, Places};
 use super::plans::accepting;
 use super::situations::{all_codes, Situation};
-use super::tape::{digest, Area, Tape};
+use super::tape::{digest, noise, Area, Tape};
 use super::trips::{header, line, line_trip, ring, wide_trip, worked_trip, Trip, ENDINGS, REFUSALS};
 use crate::build::{augmented, ip, standard, Header};
 use crate::bytes::be64;
@@ -31,7 +31,6 @@ use crate::engine::{step, Arrival};
 use crate::entries::{clock_advance, clock_start, clock_unix, walk};
 use crate::recent::LENGTH;
 use crate::walk::{Start, SHEET};
-use std::array::from_fn;
 use std::collections::BTreeSet;
 
 const TIME: u8 = 6;
@@ -94,11 +93,6 @@ struct Lent {
     output: Area,
     handed: Area,
     times: Vec<u32>,
-}
-
-/// Bytes among which none is like its neighbours, so that what is written where it should not be is seen.
-fn noise<const N: usize>(first: usize) -> [u8; N] {
-    from_fn(|place| (first + 7 * place + place / 256) as u8)
 }
 
 impl Lent {

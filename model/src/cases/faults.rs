@@ -1,5 +1,5 @@
-//! Single faults of messages, each with the drop number it leads to alone: what the cases of messages
-//! and of the engine break singly and in pairs.
+//! Single faults of messages, each with the drop number it leads to alone: what the cases of messages,
+//! of Replies and of the engine break singly and in pairs.
 
 use crate::build::{augmented, ip, standard, Header};
 
@@ -103,3 +103,15 @@ pub const REQUEST: [Fault; 16] = [
     fault("second block of type 3", 13, |m| set(m, 72, [3])),
     fault("a byte short", 13, |m| m.truncate(131)),
 ];
+
+/// What a Reply, with the blocks of [`request`], can have wrong to its reader. Of the header it looks at type and length alone:
+/// number 0 is no fault.
+pub fn of_a_reply() -> impl Iterator<Item = Fault> {
+    let others = [fault("type 1", 6, |m| set(m, 0, [1])), fault("type 2", 6, |m| set(m, 0, [2]))];
+    let shared = HEADER.into_iter().chain(REQUEST).filter(|fault| fault.name != "type 3");
+    shared.chain(others).map(|fault| match fault.number {
+        6 => Fault { number: 41, ..fault },
+        8..=12 => Fault { number: 0, ..fault },
+        _ => fault,
+    })
+}

@@ -8,6 +8,7 @@ mod message;
 mod places;
 mod plans;
 mod recent;
+mod reply;
 mod route;
 mod sheet;
 mod situations;
@@ -27,12 +28,13 @@ struct Cases {
     make: fn() -> Tape,
 }
 
-const ALL: [Cases; 10] = [
+const ALL: [Cases; 11] = [
     Cases { name: "clock", folder: "clock_cases", make: clock::tape },
     Cases { name: "sheet", folder: "sheet_cases", make: sheet::tape },
     Cases { name: "route", folder: "route_cases", make: route::tape },
     Cases { name: "message", folder: "message_cases", make: message::tape },
     Cases { name: "recent", folder: "recent_cases", make: recent::tape },
+    Cases { name: "reply", folder: "reply_cases", make: reply::tape },
     Cases { name: "engine", folder: "engine_cases", make: engine::tape },
     Cases { name: "walk", folder: "walk_cases", make: walk::tape },
     Cases { name: "entries", folder: "servicebough_cases", make: entries::tape },

@@ -5,6 +5,7 @@
 //! bytes 4 to 31 into that area, at the place that bytes 2 and 3 give.
 
 use crate::bytes::all_zero;
+use std::array::from_fn;
 
 /// Every command has this many bytes.
 const COMMAND: usize = 32;
@@ -83,6 +84,11 @@ impl Tape {
             self.command(area.number, &[&[0], &place[..], &area.bytes[start..start + size]].concat());
         }
     }
+}
+
+/// Bytes among which none is like its neighbours, so that what is written where it should not be is seen.
+pub fn noise<const N: usize>(first: usize) -> [u8; N] {
+    from_fn(|place| (first + 7 * place + place / 256) as u8)
 }
 
 /// The number that the programs print for all bytes of an area.
