@@ -56,6 +56,7 @@ pub fn tape() -> Tape {
     cases.lengths();
     cases.truncations();
     cases.heads();
+    cases.small_blocks();
     cases.fields();
     cases.many_blocks();
     cases.places();
@@ -357,6 +358,15 @@ impl Cases {
                 reply[start + at] = value;
                 self.check(&format!("byte {} is {value}", start + at), &reply);
             }
+        }
+    }
+
+    /// An Augmented block of each small length, between others.
+    fn small_blocks(&mut self) {
+        for length in 3..=16 {
+            let reply = header(3).with(&[standard(1), augmented(length, 5), standard(2)]);
+            let formed = length >= 8 && length % 4 == 0;
+            assert_eq!(self.check(&format!("a block of {length}"), &reply) == 0, formed);
         }
     }
 
