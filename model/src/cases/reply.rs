@@ -37,7 +37,7 @@ const SECOND: usize = 1600;
 const WRITTEN: usize = 900;
 /// The least that links are lent.
 const LENT: usize = 832;
-/// The most type 4 blocks, and links between them.
+/// The most type 4 blocks that a Reply has.
 const MOST: usize = 27;
 /// All ones, and the largest count.
 const NONE: u64 = u64::MAX;
@@ -92,6 +92,13 @@ struct Cases {
 fn reply() -> Vec<u8> {
     let mut reply = faults::request();
     reply[0] = 3;
+    reply
+}
+
+/// It, and zeros up to the end of its area.
+fn long() -> Vec<u8> {
+    let mut reply = reply();
+    reply.resize(FIRST, 0);
     reply
 }
 
@@ -180,7 +187,7 @@ fn over(links: &[Counts]) -> [Vec<u8>; 2] {
 
 /// Three blocks whose counts rise, so that both links are counted and each link's numbers are its own.
 fn rising() -> [Vec<u8>; 2] {
-    over(&[[[0x0102, 0x0a0b], [0x0304, 0x0809]], [[0x1112, 0x1a1b], [0x1213, 0x1617]]])
+    over(&[[[0x0102, 0x0c0b], [0x0304, 0x0809]], [[0x1112, 0x1a1f], [0x1213, 0x1618]]])
 }
 
 // Calls: the areas made ready, the command, the line.
@@ -333,6 +340,7 @@ impl Cases {
             let reply = header(3).with(&[standard(1), augmented(length - 72, 3)]);
             assert_eq!(self.check(&format!("reply of {length}"), &reply), if length > 1472 { 5 } else { 0 });
         }
+        assert_eq!(self.read("long", &long()), 5);
         let small = vec![augmented(8, 4); 175];
         assert_eq!(self.read("175 small blocks", &header(3).with(&[standard(7), small.concat()])), 0);
     }
@@ -640,6 +648,7 @@ impl Cases {
     fn refused_losses(&mut self) {
         let (good, other) = (reply(), of(&path(3)));
         assert_eq!(self.both("both read", [&good, &good]), 0);
+        assert_eq!(self.both("long first", [&long(), &good]), 5);
         for fault in faults::of_a_reply() {
             let reply = broken(&fault);
             assert_eq!(self.loss(&format!("first {}", fault.name), [&reply, &good], LENT), fault.number);
