@@ -4,6 +4,7 @@ use Rattle.wire.proofs.Laws.{both-are}
 use Rattle.message.proofs.header_of.Reads as header-of
 use Rattle.message.proofs.block_at.Reads as block-at
 use Rattle.message.proofs.blocks_of.Reads as blocks-of
+use Rattle.message.proofs.right_form.Reads as right-form
 use Rattle.message.proofs.check.Reads as check
 
 pub header-of-determined : (κs : _) (a : _) (x y : _) (e f : _) → header-of.Post κs a x e → header-of.Post κs a y f → x ≡ y
@@ -17,3 +18,6 @@ blocks-of-determined κs a x y e f = both-are
 
 pub check-determined : (κs : _) (a : _) (x y : _) (e f : _) → check.Post κs a x e → check.Post κs a y f → x ≡ y
 check-determined κs a x y e f = both-are
+
+pub right-form-determined : (κs : _) (a : _) (x y : _) (e f : _) → right-form.Post κs a x e → right-form.Post κs a y f → x ≡ y
+right-form-determined κs a x y e f = both-are

@@ -1,16 +1,22 @@
 -- Laws of an accepted message with a type 4 block appended and a type written: what a router sends. It has one type 4 block
 -- more and the same header but for the type; sent on as a Request it is accepted by the next router.
 use Prim.Native.Nat.{ℕ, _+_, _≤_, _<_}
-use mathlib.Core.Path.{_≡_, ap, _∙_}
+use mathlib.Core.Path.{_≡_, sym, ap, _∙_}
+use mathlib.Core.Bool.{true}
 use mathlib.Core.List.{List, [], _∷_, _++_}
 use native.Mathlib.Omega.{arith}
 use lib.ListN.{length, set, length-append, length-set}
-use Rattle.message.specs.Format.{most, request, standardSize}
+use lib.Seq.{getD-set-same, getD-set-other}
+use borrow.Author.Tests.{ne-eqb}
+use Rattle.wire.specs.Numbers.{byteAt}
+use Rattle.message.specs.Format.{headerSize, most, query, request, standardSize, codeOffset}
 use Rattle.message.specs.Header.{headerOf, retyped}
 use Rattle.message.specs.Inside.{StandardBlock}
-use Rattle.message.specs.Blocks.{standards, standardCount}
-use Rattle.message.proofs.Append.{append-standards, append-count, right-form-fills, append-right-form, append-header}
-use Rattle.message.proofs.Write.{typed-standards, typed-form, typed-header}
+use Rattle.message.specs.Blocks.{blocksOf, lastOr, standards, standardCount, lastStandard, rightForm}
+use Rattle.message.proofs.Append.{append-standards, append-count, right-form-fills, append-right-form, append-header, query-alone, request-formed}
+use Rattle.message.proofs.Fields.{same-header}
+use Rattle.message.proofs.Standards.{last-low, standards-fit}
+use Rattle.message.proofs.Write.{same-request-form, typed-blocks, typed-standards, typed-form, typed-header, coded-blocks}
 use Rattle.message.proofs.Accept.{Accepted}
 
 module _ (s : List ℕ) (a : Accepted s) (block : List ℕ) (b : StandardBlock block) where
@@ -30,6 +36,10 @@ module _ (s : List ℕ) (a : Accepted s) (block : List ℕ) (b : StandardBlock b
     pub sent-count : standardCount (set (s ++ block) 0 v) ≡ standardCount s + 1
     sent-count = rw (typed-standards (s ++ block) v) (append-count s block (a .low) (right-form-fills s (a .form)) b)
 
+  -- it has the form of a Request, and of a Reply
+  pub sent-form : (v : ℕ) → (v ≡ query → ⊥) → rightForm (set (s ++ block) 0 v) ≡ true
+  sent-form v k = typed-form (s ++ block) v some k ∙ append-right-form s (a .form) block (a .low) b
+
   pub sent-accepted : length s + standardSize ≤ most → Accepted (set (s ++ block) 0 request)
   sent-accepted room =
       let fields = sent-header request in
@@ -45,5 +55,40 @@ module _ (s : List ℕ) (a : Accepted s) (block : List ℕ) (b : StandardBlock b
         pair = rw fields (a .pair);
         client = rw fields (a .client);
         port = rw fields (a .port);
-        form = typed-form (s ++ block) request some (λ e. omega arith) ∙ append-right-form s (a .form) block (a .low) b;
+        form = sent-form request (λ e. omega arith);
       }
+
+-- a type written, and a code into the last type 4 block: what a router without room sends
+module _ (s : List ℕ) (a : Accepted s) (there : 0 < standardCount s) (v code : ℕ) where
+  abbrev typed : List ℕ
+  typed = set s 0 v
+
+  abbrev coded : List ℕ
+  coded = set typed (lastStandard s + codeOffset) code
+
+  not-first : (j : ℕ) → j < headerSize → lastStandard s + codeOffset ≡ j → ⊥
+  not-first j h e = omega (arith, last-low s there)
+
+  pub coded-length : length coded ≡ length s
+  coded-length = length-set typed (lastStandard s + codeOffset) code ∙ length-set s 0 v
+
+  pub coded-header : headerOf coded ≡ retyped v (headerOf s)
+  coded-header =
+      same-header typed coded (λ j h. getD-set-other typed (lastStandard s + codeOffset) j code 0 (λ e. not-first j h (sym e)))
+      ∙ typed-header s v (omega (arith, a .low))
+
+  blocks-same : blocksOf coded ≡ blocksOf typed
+  blocks-same =
+      let same : lastStandard typed ≡ lastStandard s = ap (lastOr 0) (typed-standards s v) in
+      rw same at (coded-blocks typed code (rw (typed-standards s v) there))
+
+  pub coded-form : (v ≡ query → ⊥) → rightForm coded ≡ true
+  unfolding rightForm
+  coded-form k =
+      let first : byteAt coded 0 ≡ v =
+      getD-set-other typed (lastStandard s + codeOffset) 0 code 0 (λ e. not-first 0 (omega arith) (sym e)) ∙ getD-set-same s 0 v 0 (omega (arith, a .low)) in
+      let query-none : byteAt s 0 ≡ query → ⊥ = λ q. omega (arith, query-alone s (a .form) q, standards-fit s (a .low)) in
+      rw (first, ne-eqb _ _ k)
+      (same-request-form typed coded blocks-same (length-set typed (lastStandard s + codeOffset) code)
+      ∙ same-request-form s typed (typed-blocks s v) (length-set s 0 v)
+      ∙ request-formed s (a .form) query-none)

@@ -1,6 +1,6 @@
 -- Laws of a message's type 4 blocks: where they stand, that they fit in, and which is the last.
 use Prim.Native.Nat.{ℕ, zero, suc, _+_, _*_, _-_, _≤_, _<_}
-use mathlib.Core.Path.{_≡_, refl, _∙_}
+use mathlib.Core.Path.{_≡_, refl, sym, ap, _∙_}
 use mathlib.Core.Bool.{true, false}
 use mathlib.Core.List.{List, [], _∷_}
 use mathlib.Core.Logic.{⊎-elim}
@@ -122,6 +122,40 @@ place-inside =
     record { low = omega arith; high = omega (arith, g .inside, g .standard-size k) })
     (λ at rest p b i. record { low = omega (arith, i .low); high = omega (arith, i .low, i .high, begun rest b .inside, length-drop (be16 rest 1) rest) })
 
+-- the first of the type 4 blocks from a place on, and those behind it
+record Led (at : ℕ) (rest places : List ℕ) : Type 0 where
+  low : at ≤ getD places 0 0
+  same : places ≡ standardPlaces (blocksFrom (getD places 0 0) (drop (getD places 0 0 - at) rest))
+  parts : places ≡ getD places 0 0 ∷ standardPlaces (blocksFrom (getD places 0 0 + standardSize) (drop (getD places 0 0 + standardSize - at) rest))
+
+led-behind : (at size : ℕ) (rest places : List ℕ) → Led (at + size) (drop size rest) places → Led at rest places
+led-behind at size rest places l =
+    let first : ℕ = getD places 0 0 in
+    let near : size + (first - (at + size)) ≡ first - at = omega (arith, l .low) in
+    let far : size + (first + standardSize - (at + size)) ≡ first + standardSize - at = omega (arith, l .low) in
+    record {
+      low = omega (arith, l .low);
+      same = l .same ∙ ap (λ (r : List ℕ). standardPlaces (blocksFrom first r)) (drop-drop (first - (at + size)) size rest ∙ rw near);
+      parts = l .parts
+          ∙ ap (λ (r : List ℕ). first ∷ standardPlaces (blocksFrom (first + standardSize) r))
+          (drop-drop (first + standardSize - (at + size)) size rest ∙ rw far);
+    }
+
+led-by : (at : ℕ) (rest : List ℕ) → 0 < length (standardPlaces (blocksFrom at rest)) → Led at rest (standardPlaces (blocksFrom at rest))
+led-by =
+    by-blocks (λ at rest. 0 < length (standardPlaces (blocksFrom at rest)) → Led at rest (standardPlaces (blocksFrom at rest)))
+    (λ at rest b. rw (no-places at rest b) (λ h. absurd (omega arith)))
+    (λ at rest b f.
+    ⊎-elim
+    (λ e.
+    let size : be16 rest 1 ≡ standardSize = begun rest b .standard-size (eqb-true _ _ e) in
+    let here : at - at ≡ 0 = omega arith in
+    let far : at + standardSize - at ≡ standardSize = omega arith in
+    let same : at ∷ standardPlaces (behind at rest b) ≡ standardPlaces (blocksFrom at (drop (at - at) rest)) = rw here (sym (places-more at rest b e)) in
+    rw (places-more at rest b e) (λ h. record { low = omega arith; same = same; parts = rw (far, size) }))
+    (λ e. rw (places-same at rest b e) (λ h. led-behind at (be16 rest 1) rest _ (f h)))
+    (decided (eqb (byteAt rest 0) standard)))
+
 -- the last of some places
 last-of : (none : ℕ) (places : List ℕ) → 0 < length places → lastOr none places ≡ getD places (length places - 1) 0
 unfolding lastOr
@@ -132,7 +166,36 @@ last-of none (p ∷ q ∷ places) h =
     let f : suc (length places) - 1 ≡ length places = omega arith in
     rw e (last-of p (q ∷ places) (omega arith) ∙ rw f)
 
--- of a message
+-- of a message, from a place on
+module _ (s : List ℕ) (at : ℕ) (some : 0 < length (standardsFrom s at)) where
+  abbrev first : ℕ
+  first = getD (standardsFrom s at) 0 0
+
+  pub first-inside : first + standardSize ≤ length s
+  unfolding standardsFrom
+  first-inside =
+      let i = place-inside at (drop at s) 0 some in
+      omega (arith, i .low, i .high, length-drop at s)
+
+  pub first-low : at ≤ first
+  unfolding standardsFrom
+  first-low = led-by at (drop at s) some .low
+
+  pub first-same : standardsFrom s at ≡ standardsFrom s first
+  unfolding standardsFrom
+  first-same =
+      let l = led-by at (drop at s) some in
+      let near : at + (first - at) ≡ first = omega (arith, l .low) in
+      l .same ∙ rw (drop-drop, near)
+
+  pub first-parts : standardsFrom s at ≡ first ∷ standardsFrom s (first + standardSize)
+  unfolding standardsFrom
+  first-parts =
+      let l = led-by at (drop at s) some in
+      let far : at + (first + standardSize - at) ≡ first + standardSize = omega (arith, l .low) in
+      l .parts ∙ rw (drop-drop, far)
+
+-- of all of it
 module _ (s : List ℕ) where
   pub standards-fit : headerSize ≤ length s → headerSize + standardSize * standardCount s ≤ length s
   unfolding standards blocksOf

@@ -3,7 +3,7 @@
 use Prim.Native.Nat.{ℕ, suc, _+_, _-_, _≤_, _<_}
 use mathlib.Core.Path.{_≡_, refl, sym, ap, _∙_}
 use mathlib.Core.Bool.{Bool, true, false, cond}
-use mathlib.Core.List.{List, _∷_}
+use mathlib.Core.List.{List, [], _∷_}
 use mathlib.Core.Logic.{⊎-elim}
 use native.Mathlib.Omega.{arith}
 use native.Mathlib.Nat.{add-zero, zero-add, add-assoc}
@@ -70,6 +70,9 @@ module _ (s : List ℕ) (at : ℕ) (block : BlockHead) (b : block ≡ blockAt s 
       (λ e. e)
       (decided (begins rest))
 
+  pub blocks-over : block .size ≡ 0 → blocksFrom at rest ≡ []
+  blocks-over z = no-blocks at rest (ends z)
+
   module _ (some : block .size ≡ 0 → ⊥) where
     pub starts : begins rest ≡ true
     starts = ⊎-elim (λ e. e) (λ e. absurd (some (ap (λ (h : BlockHead). h .size) (nowhere e)))) (decided (begins rest))
@@ -91,7 +94,7 @@ module _ (s : List ℕ) (at : ℕ) (block : BlockHead) (b : block ≡ blockAt s 
     size-standard e = size-there ∙ begun rest starts .standard-size (ap (λ (h : BlockHead). h .kind) (sym (there starts)) ∙ eqb-true (block .kind) standard e)
 
     -- the blocks from here on: that one, and those behind it
-    blocks-on : blocksFrom at rest ≡ record { at = at; kind = block .kind; size = block .size } ∷ blocksFrom (at + block .size) (drop (at + block .size) s)
+    pub blocks-on : blocksFrom at rest ≡ record { at = at; kind = block .kind; size = block .size } ∷ blocksFrom (at + block .size) (drop (at + block .size) s)
     blocks-on =
         block-first at rest starts
         ∙ rw (there starts, drop-drop)
@@ -100,7 +103,7 @@ module _ (s : List ℕ) (at : ℕ) (block : BlockHead) (b : block ≡ blockAt s 
   module _ (count last : ℕ) (so-far : blocksSeen s ≡ joined at count last (blocksFrom at rest)) where
     over : block .size ≡ 0 → record { end = at; count = count; last = last } ≡ blocksSeen s
     unfolding joined totalSize standardPlaces lastOr
-    over z = rw (so-far, no-blocks at rest (ends z), add-zero, add-zero)
+    over z = rw (so-far, blocks-over z, add-zero, add-zero)
 
     on : (block .size ≡ 0 → ⊥)
         → blocksSeen s

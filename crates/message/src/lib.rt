@@ -13,7 +13,7 @@ ghost use Rattle.message.specs.Inside.{isStandard, augmentedSize, blockA
 pub const HEADER_SIZE: usize = 20;
 
 // The same, as the header says it of itself.
-const HEADER_LENGTH: u16 = HEADER_SIZE as u16;
+pub const HEADER_LENGTH: u16 = HEADER_SIZE as u16;
 
 pub const MOST: usize = 1472;
 
@@ -50,11 +50,11 @@ const AUGMENTED_UNIT: usize = 4;
 pub const NOTE_SIZE: usize = 16;
 
 // The drop numbers of a message by itself.
-const DROP_SIZE: u32 = 5;
+pub const DROP_SIZE: u32 = 5;
 
 const DROP_TYPE: u32 = 6;
 
-const DROP_HEADER: u32 = 7;
+pub const DROP_HEADER: u32 = 7;
 
 const DROP_HOPS: u32 = 8;
 
@@ -66,7 +66,7 @@ const DROP_PAIR: u32 = 11;
 
 const DROP_CLIENT: u32 = 12;
 
-const DROP_BLOCKS: u32 = 13;
+pub const DROP_BLOCKS: u32 = 13;
 
 // The header of a message. `kind` is its type, `group` the multicast address.
 pub struct Header {
@@ -221,7 +221,7 @@ pub fn blocks_of(s: &[u8]) -> Blocks
 }
 
 // Whether what follows the header keeps the rules of the message's type; `end` is where the blocks end.
-fn right_form(s: &[u8], end: usize) -> bool
+pub fn right_form(s: &[u8], end: usize) -> bool
     requires { ⌜ (headerSize ≤ length (now s)) × (end ≡ blocksEnd (now s)) ⌝ }
     ensures { λ r. ⌜ r ≡ rightForm (now (s .entry)) ⌝ }
 {

@@ -1,5 +1,4 @@
 -- Laws of the entries' promises; and `Determined`: each promise leaves one answer.
-mod Behind
 mod Rows
 pub mod Laws
 pub mod Determined

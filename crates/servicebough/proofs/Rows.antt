@@ -16,7 +16,7 @@ use Rattle.yard.specs.Walk.{Walk, Tells}
 use Rattle.drops.specs.Drop.{dropRoom}
 use Rattle.servicebough.specs.Ticks.{tickSize, tickBytes, TickMeets}
 use Rattle.servicebough.specs.Answers.{answerSize, walkedBytes, answerLeft, handed, walkHanded}
-use Rattle.servicebough.proofs.Behind.{three-written, four-written}
+use Rattle.wire.proofs.Behind.{three-written, four-written}
 
 module _ (k : Tick) (out : List ℕ) where
   -- too little room
@@ -35,7 +35,7 @@ module _ (k : Tick) (out : List ℕ) where
         → c ≡ splice b 16 (bytes64 (k .time)) → TickMeets k out 0 c
     unfolding byFirst tickBytes
     written a b c h ea eb ec =
-        let all = three-written 3 (k .clock .r) (k .clock .y) out a b ea eb (k .time) c ec (omega arith) in
+        let all = three-written 3 0 (k .clock .r) (k .clock .y) out a b ea eb (k .time) c ec (omega arith) in
         record { number = simp (le-ltb _ _ room, h); bytes = simp (le-ltb _ _ room, h) all }
 
 -- what a reading gave, by its definition
@@ -54,7 +54,7 @@ module _ (r : Walked) (answer : List ℕ) where
       → e ≡ answerLeft r answer
   unfolding answerLeft walkedBytes
   answered a b c e h room ea eb ec ee =
-      let all = four-written 2 (r .end) (r .steps) answer a b ea eb (r .blocks) c ec (r .length) e ee (omega arith) in
+      let all = four-written 2 0 (r .end) (r .steps) answer a b ea eb (r .blocks) c ec (r .length) e ee (omega arith) in
       simp (le-ltb _ _ h) all
 
 module _ (w : Walk) (output answer : List ℕ) where
