@@ -1,0 +1,231 @@
+// Replies as a client reads them: the check, the type 4 blocks one after the other, and a reader that holds the message.
+ghost use mathlib.Core.Path.{_≡_};
+ghost use Prim.Native.Nat.{_+_, _≤_};
+ghost use lib.ListN.{length};
+ghost use Rattle.message.specs.Format.{headerSize, standardSize};
+ghost use Rattle.message.specs.Blocks.{blocksEnd};
+ghost use Rattle.message.specs.Inside.{standardsFrom};
+ghost use Rattle.rows.specs.Rows.{firstOf};
+ghost use Rattle.reply.specs.Check.{replyRows};
+ghost use Rattle.reply.specs.Standard.{standardOf, standardIn};
+ghost use Rattle.reply.specs.Reader.{startOf, nextFrom, Opens, Hands};
+ghost use Rattle.reply.specs.Copy.{isPlace, copied, copiedNext};
+ghost use Rattle.reply.specs.Inside.{firstOr, FillsFrom};
+
+// What is not a Reply.
+pub const NOT_REPLY: u32 = 41;
+
+// The places of the counts in a Standard Response Block.
+pub const INPUT_OFFSET: usize = 20;
+
+pub const OUTPUT_OFFSET: usize = 28;
+
+// The place of S and the mask in it, and S, which stands before the 7 bits of the mask.
+const MASK_OFFSET: usize = 50;
+
+const S_BIT: u8 = 128;
+
+// A Standard Response Block: its 52 bytes as they came, and its fields. `routing` and `multicast` are the protocols' numbers.
+pub struct Standard {
+    pub bytes: [u8; 52],
+    pub time: u32,
+    pub incoming: u32,
+    pub outgoing: u32,
+    pub upstream: u32,
+    pub input: u64,
+    pub output: u64,
+    pub total: u64,
+    pub routing: u16,
+    pub multicast: u16,
+    pub ttl: u8,
+    pub s: bool,
+    pub mask: u8,
+    pub code: u8,
+}
+
+// What a call of a reader hands out: the block, or zeros where none is left, and the place from which the next call goes on.
+pub struct Handed {
+    pub found: bool,
+    pub place: usize,
+    pub block: Standard,
+}
+
+// A reader: the message that it was given, and the place from which the next call goes on.
+pub struct Reader<'a> {
+    pub reply: &'a [u8],
+    pub place: usize,
+}
+
+// The first of rows 5, 41, 7 and 13 that applies to a message, or 0 for a Reply that can be read.
+pub fn check(s: &[u8]) -> u32
+    ensures { λ r. ⌜ r ≡ firstOf (replyRows (now (s .entry))) ⌝ }
+{
+    if s.len() < message::HEADER_SIZE {
+        return message::DROP_SIZE;
+    }
+    if message::MOST < s.len() {
+        return message::DROP_SIZE;
+    }
+    if s[0] != message::REPLY {
+        return NOT_REPLY;
+    }
+    if wire::be16(s, 1) != message::HEADER_LENGTH {
+        return message::DROP_HEADER;
+    }
+    let blocks = message::blocks_of(s);
+    if message::right_form(s, blocks.end) {
+        return 0;
+    }
+    message::DROP_BLOCKS
+}
+
+// The place of the first type 4 block from a place on, where a block begins; the message's length where there is none.
+pub fn next_at(s: &[u8], place: usize) -> usize
+    ensures { λ r. ⌜ r ≡ firstOr (length (now (s .entry))) (standardsFrom (now (s .entry)) place) ⌝ }
+{
+    if s.len() < place {
+        return s.len();
+    }
+    let mut at = place;
+    loop {
+        let block = message::block_at(s, at);
+        if block.size == 0 {
+            return s.len();
+        }
+        if block.kind == message::STANDARD {
+            return at;
+        }
+        at += block.size;
+    }
+}
+
+// The same in a message whose blocks are known to go up to its end from that place on: of each block only its type and its length
+// are read.
+pub fn next_known(s: &[u8], place: usize) -> usize
+    requires { ⌜ FillsFrom (now s) place ⌝ }
+    ensures { λ r. ⌜ (r ≡ firstOr (length (now (s .entry))) (standardsFrom (now (s .entry)) place)) × FillsFrom (now (s .entry)) r ⌝ }
+{
+    let mut here = place;
+    while here < s.len() {
+        if s[here] == message::STANDARD {
+            return here;
+        }
+        here += wire::be16(s, here + 1) as usize;
+    }
+    here
+}
+
+// The fields of a block's bytes, beside them.
+fn standard_of(bytes: [u8; 52]) -> Standard
+    ensures { λ r. ⌜ r ≡ standardOf bytes ⌝ }
+{
+    Standard {
+        bytes,
+        time: wire::be32(&bytes, 4),
+        incoming: wire::be32(&bytes, message::INCOMING_OFFSET),
+        outgoing: wire::be32(&bytes, message::OUTGOING_OFFSET),
+        upstream: wire::be32(&bytes, message::UPSTREAM_OFFSET),
+        input: wire::be64(&bytes, INPUT_OFFSET),
+        output: wire::be64(&bytes, OUTPUT_OFFSET),
+        total: wire::be64(&bytes, 36),
+        routing: wire::be16(&bytes, 44),
+        multicast: wire::be16(&bytes, 46),
+        ttl: bytes[48],
+        s: S_BIT <= bytes[MASK_OFFSET],
+        mask: bytes[MASK_OFFSET] % S_BIT,
+        code: bytes[message::CODE_OFFSET],
+    }
+}
+
+// The type 4 block at a place.
+fn standard_at(s: &[u8], at: usize) -> Standard
+    requires { ⌜ at + standardSize ≤ length (now s) ⌝ }
+    ensures { λ r. ⌜ r ≡ standardIn (now (s .entry)) at ⌝ }
+{
+    let mut bytes = [0u8; 52];
+    wire::copy_to(&mut bytes, 0, &s[at..at + message::STANDARD_SIZE]);
+    standard_of(bytes)
+}
+
+// One call of a reader that has come to a place.
+pub fn next_from(s: &[u8], place: usize) -> Handed
+    ensures { λ r. ⌜ r ≡ nextFrom (now (s .entry)) place ⌝ }
+{
+    let at = next_at(s, place);
+    if at == s.len() {
+        return Handed {
+            found: false,
+            place,
+            block: standard_of([0u8; 52]),
+        };
+    }
+    Handed {
+        found: true,
+        place: at + message::STANDARD_SIZE,
+        block: standard_at(s, at),
+    }
+}
+
+// Whether a block of a message begins at a place, or the message ends there; its blocks are known to go up to its end.
+fn is_place(s: &[u8], place: usize) -> bool
+    requires { ⌜ (headerSize ≤ length (now s)) × (blocksEnd (now s) ≡ length (now s)) ⌝ }
+    ensures { λ r. ⌜ r ≡ isPlace (now (s .entry)) place ⌝ }
+{
+    if s.len() < place {
+        return false;
+    }
+    let mut at: usize = message::HEADER_SIZE;
+    while at < place {
+        at += wire::be16(s, at + 1) as usize;
+    }
+    at == place
+}
+
+// Copies the next block at or after a place over the first 52 bytes lent, and answers the place behind it; 0 where none is handed out.
+pub fn copy_next(s: &[u8], place: usize, block: &mut [u8]) -> u32
+    ensures { λ r. ⌜ copied r (now (block .exit)) ≡ copiedNext (now (s .entry)) place (now (block .entry)) ⌝ }
+{
+    if block.len() < message::STANDARD_SIZE {
+        return 0;
+    }
+    if check(s) != 0 {
+        return 0;
+    }
+    if !is_place(s, place) {
+        return 0;
+    }
+    let at = next_at(s, place);
+    if at == s.len() {
+        return 0;
+    }
+    let behind = at + message::STANDARD_SIZE;
+    wire::copy_to(block, 0, &s[at..behind]);
+    behind as u32
+}
+
+// Where a reader begins.
+pub fn start_of(s: &[u8]) -> usize
+    ensures { λ r. ⌜ r ≡ startOf (now (s .entry)) ⌝ }
+{
+    if check(s) == 0 {
+        return message::HEADER_SIZE;
+    }
+    s.len()
+}
+
+// A reader of a message.
+pub fn open<'a>(reply: &'a [u8]) -> Reader<'a>
+    ensures { λ r. ⌜ Opens (reply .entry) r ⌝ }
+{
+    let place = start_of(reply);
+    Reader { reply, place }
+}
+
+// Hands out the next block, and goes on behind it.
+pub fn next<'s, 'a>(r: &'s mut Reader<'a>) -> Handed
+    ensures { λ h. ⌜ Hands (now (r .entry)) h (now (r .exit)) ⌝ }
+{
+    let h = next_from(r.reply, r.place);
+    r.place = h.place;
+    h
+}
