@@ -1,4 +1,5 @@
-/* Servicebough: an Mtrace2 (RFC 8487, IPv4) engine for a router. What a host written in C calls.
+/* Servicebough: an Mtrace2 (RFC 8487, IPv4) engine for a router, and a reader of Replies for a client. What a host or a
+ * client written in C calls.
  *
  * The library does no input and no output, keeps no state, takes no memory but stack, and calls nothing
  * but C's memset: the host receives and sends UDP datagrams, and lends the library its bytes for the length
@@ -27,6 +28,15 @@
  *     if (n == BOUGH_SENT_ON) ..send output[0 .. length) to the next router, with TTL 255..
  *     else if (n == BOUGH_REPLY) ..send output[0 .. length) to the client..
  *     else ..dropped: count it under n, send nothing..
+ *
+ * A Reply read, in short (examples/trace.c is a whole client):
+ *
+ *     uint8_t block[BOUGH_STANDARD_SIZE];
+ *     uint32_t n = bough_reply_check(payload, payload_len);
+ *     if (n != BOUGH_READ_OK) ..refused by n..
+ *     for (uint32_t place = BOUGH_HEADER_SIZE;
+ *          (place = bough_reply_next(payload, payload_len, place, block, sizeof block)) != 0;)
+ *         ..block is the next router's..
  */
 #ifndef SERVICEBOUGH_H
 #define SERVICEBOUGH_H
@@ -45,6 +55,9 @@ extern "C" {
 #define BOUGH_HEADER_SIZE 20          /* a message's header; a Query is this alone */
 #define BOUGH_STANDARD_SIZE 52        /* a Standard Response Block */
 #define BOUGH_AUGMENTED_LEAST 8       /* the shortest Augmented Response Block; its length is a multiple of 4 */
+#define BOUGH_BLOCKS_MOST 27          /* no message has room for more Standard Response Blocks; a number, not bytes */
+#define BOUGH_LINK_SIZE 32            /* what two Replies tell of one link */
+#define BOUGH_LINKS_SIZE 832          /* room for 26 links: one fewer than blocks */
 
 #define BOUGH_SHEET_BLOCK 512         /* a sheet is 1 to 16 blocks of this */
 #define BOUGH_SHEET_BLOCKS_MOST 16
@@ -82,7 +95,7 @@ extern "C" {
 #define BOUGH_BLOCK_INCOMING 8        /* address of the interface towards the source, or 0 */
 #define BOUGH_BLOCK_OUTGOING 12       /* address of the interface that the message came in on */
 #define BOUGH_BLOCK_UPSTREAM 16       /* address of the next router, 0 at the end, or 224.0.0.2 */
-#define BOUGH_BLOCK_INPUT_COUNT 20    /* 8 bytes each; all ones: not known */
+#define BOUGH_BLOCK_INPUT_COUNT 20    /* 8 bytes each; BOUGH_NOT_COUNTED where it is not known */
 #define BOUGH_BLOCK_OUTPUT_COUNT 28
 #define BOUGH_BLOCK_TOTAL_COUNT 36
 #define BOUGH_BLOCK_PROTOCOL 44
@@ -90,6 +103,10 @@ extern "C" {
 #define BOUGH_BLOCK_TTL 48            /* forwarding TTL */
 #define BOUGH_BLOCK_MASK 50           /* S in the highest bit, then 7 bits of source mask (127: group state) */
 #define BOUGH_BLOCK_CODE 51           /* forwarding code, below */
+
+#define BOUGH_NOT_COUNTED 0xFFFFFFFFFFFFFFFFu /* a count of all ones */
+#define BOUGH_S_BIT 0x80              /* in the byte at BOUGH_BLOCK_MASK: the total count is the source network's */
+#define BOUGH_MASK_GROUP 127          /* the other 7 bits of it: group state, no source mask */
 
 /* Forwarding codes of RFC 8487 in the blocks of a Reply. INFO_HIDDEN, REACHED_GW, UNKNOWN_QUERY and FATAL_ERROR
  * are written by other routers only. A set 0x80 bit marks an error. */
@@ -183,6 +200,15 @@ extern "C" {
 #define BOUGH_WALK_START 23           /* no such start router */
 #define BOUGH_WALK_REQUEST 24         /* the message is a Request */
 
+/* Refusals of Replies, in the order tried. Of two Replies the first one's come before the second's. */
+#define BOUGH_READ_OK 0
+#define BOUGH_READ_ROOM 1             /* links under 832 bytes */
+#define BOUGH_READ_SIZE 5             /* under 20 or over 1472 bytes */
+#define BOUGH_READ_TYPE 41            /* not a Reply */
+#define BOUGH_READ_HEADER 7           /* header length not 20 */
+#define BOUGH_READ_BLOCKS 13          /* no block, the first not a Standard Response Block, or malformed ones */
+#define BOUGH_READ_PATH 42            /* two Replies that are not over one path */
+
 /* ---- the answer record -------------------------------------------------------------------------- */
 
 /* Byte offsets in the record that a step writes with 100 and 101. */
@@ -274,6 +300,52 @@ uint32_t bough_walk(
     uint32_t start_router, uint32_t receiving_interface, uint32_t destination, uint32_t ttl,
     uint8_t *output, size_t output_len,
     uint8_t *answer, size_t answer_len);
+
+/* ---- Replies: their blocks, and the loss between two ---------------------------------------------- */
+
+/* Whether `reply`, a UDP payload as received, is a Reply that can be read. 0: it is. 5, 41, 7 and 13: refused, tried in that
+ * order. Of the header only type and length are looked at: whether it is the Reply to a certain Query, by the rest of the
+ * header, is for the caller to compare. */
+uint32_t bough_reply_check(const uint8_t *reply, size_t reply_len);
+
+/* Hands out the Standard Response Blocks of a Reply, one a call, the client's router first; Augmented ones are passed over.
+ * place: BOUGH_HEADER_SIZE at the first call, then what the call before answered. block: lent for the 52 bytes of the block, as
+ * they came; bytes past them stay as they are. The answer is the place behind the block, which is never 0.
+ *
+ * 0: there is no further block, and nothing is written. The same answer comes for a Reply that bough_reply_check refuses, for
+ * a block of under 52 bytes, and for a place at which no block of the Reply begins. */
+uint32_t bough_reply_next(const uint8_t *reply, size_t reply_len, uint32_t place, uint8_t *block, size_t block_len);
+
+/* What was lost on each link of a path from one Reply to another. Link k, from 0, is between blocks k and k + 1 of a Reply, as
+ * bough_reply_next hands them out; packets go into it at block k + 1, which is nearer to the source, and come out at block k.
+ *
+ * links: at least BOUGH_LINKS_SIZE bytes, lent for BOUGH_LINK_SIZE bytes a link.
+ *
+ * 0: links[0 .. 32 * (blocks - 1)) is written, and bytes past it stay as they are; with one block there is no link. Of a link
+ * that is counted, `sent` is by how much block k + 1's output count rose from the first Reply to the second, `received` by how
+ * much block k's input count did, and `lost` is sent - received. Otherwise its verdict is the first that applies of the others
+ * below, and the three numbers are 0.
+ *
+ * 1, then 5, 41, 7 and 13 of the first Reply, then of the second, then 42: refused, tried in that order; nothing is written.
+ * 42: they have not as many Standard Response Blocks, or two blocks at the same place differ in outgoing or upstream address.
+ * Which Reply is the first is the caller's to say: arrival times are not looked at. */
+#define BOUGH_LINK_VERDICT 0          /* byte offsets in a link: 1 byte, then 7 zeros */
+#define BOUGH_LINK_SENT 8             /* 8 bytes each */
+#define BOUGH_LINK_RECEIVED 16
+#define BOUGH_LINK_LOST 24
+#define BOUGH_LINK_COUNTED 0          /* verdicts */
+#define BOUGH_LINK_NOT_COUNTED 1      /* one of the four counts is all ones */
+#define BOUGH_LINK_FALLEN 2           /* a count is lower in the second Reply: set back, or wrapped */
+#define BOUGH_LINK_SURPLUS 3          /* more received than sent: someone else sends into the link */
+uint32_t bough_reply_loss(
+    const uint8_t *first, size_t first_len,
+    const uint8_t *second, size_t second_len,
+    uint8_t *links, size_t links_len);
+
+/* The time from one Query Arrival Time to another, in units of 1/65536 s: of the differences by which two times that wrap at
+ * 2^32 may lie apart, the shortest, negative where `later` is the earlier one; -2^31 where they are 2^31 apart. It tells the
+ * time that went by if that was under 9 hours, as far as the two routers' clocks agree. */
+int32_t bough_arrival_difference(uint32_t later, uint32_t earlier);
 
 #ifdef __cplusplus
 }

@@ -2,6 +2,8 @@
 use denote.Ref.{now}
 use Prim.Native.Nat.{ℕ}
 use mathlib.Core.List.{List}
+use Rattle.reply.specs.Copy.{copied}
+use Rattle.loss.specs.Loss.{written}
 use mathlib.Core.Path.{_≡_}
 use Rattle.wire.proofs.Laws.{both-are}
 use Rattle.clock.specs.declared.Tick.{Tick}
@@ -13,6 +15,10 @@ use Rattle.servicebough.proofs.bough_clock_advance.Reads as bough_clock
 use Rattle.servicebough.proofs.bough_clock_unix.Reads as bough_clock_unix
 use Rattle.servicebough.proofs.bough_clock_arrival.Reads as bough_clock_arrival
 use Rattle.servicebough.proofs.bough_engine_step.Reads as bough_engine_step
+use Rattle.servicebough.proofs.bough_reply_check.Reads as bough_reply_check
+use Rattle.servicebough.proofs.bough_reply_next.Reads as bough_reply_next
+use Rattle.servicebough.proofs.bough_reply_loss.Reads as bough_reply_loss
+use Rattle.servicebough.proofs.bough_arrival_difference.Reads as bough_arrival_difference
 use Rattle.servicebough.proofs.bough_walk.Reads as bough_walk
 
 tick-settled : {k : Tick} {out left left′ : List ℕ} {n m : ℕ} → TickMeets k out n left → TickMeets k out m left′ → (n ≡ m) × (left ≡ left′)
@@ -41,3 +47,17 @@ pub bough-walk-determined : (κs : _) (a : _) (x y : _) (e f : _) → bough_walk
     → handed x (now (e .1 .1 .1 .1 .1 .1 .1 .0)) (now (e .1 .1 .1 .1 .1 .1 .1 .1 .0))
     ≡ handed y (now (f .1 .1 .1 .1 .1 .1 .1 .0)) (now (f .1 .1 .1 .1 .1 .1 .1 .1 .0))
 bough-walk-determined κs a x y e f p q = both-are p q
+
+pub bough-reply-check-determined : (κs : _) (a : _) (x y : _) (e f : _) → bough_reply_check.Post κs a x e → bough_reply_check.Post κs a y f → x ≡ y
+bough-reply-check-determined κs a x y e f = both-are
+
+pub bough-reply-next-determined : (κs : _) (a : _) (x y : _) (e f : _) → bough_reply_next.Post κs a x e → bough_reply_next.Post κs a y f
+    → copied x (now (e .1 .1 .0)) ≡ copied y (now (f .1 .1 .0))
+bough-reply-next-determined κs a x y e f = both-are
+
+pub bough-reply-loss-determined : (κs : _) (a : _) (x y : _) (e f : _) → bough_reply_loss.Post κs a x e → bough_reply_loss.Post κs a y f
+    → written x (now (e .1 .1 .0)) ≡ written y (now (f .1 .1 .0))
+bough-reply-loss-determined κs a x y e f = both-are
+
+pub bough-arrival-difference-determined : (κs : _) (a : _) (x y : _) (e f : _) → bough_arrival_difference.Post κs a x e → bough_arrival_difference.Post κs a y f → x ≡ y
+bough-arrival-difference-determined κs a x y e f = both-are

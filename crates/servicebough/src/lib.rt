@@ -11,6 +11,11 @@ ghost use Rattle.clock.specs.Unix.{unixOf};
 ghost use Rattle.drops.specs.Arrival.{arrival};
 ghost use Rattle.engine.specs.Step.{outcome, StepMeets};
 ghost use Rattle.yard.specs.Walk.{visit, walkOf};
+ghost use Rattle.rows.specs.Rows.{firstOf};
+ghost use Rattle.reply.specs.Check.{replyRows};
+ghost use Rattle.reply.specs.Copy.{copied, copiedNext};
+ghost use Rattle.loss.specs.Loss.{written, lossOf};
+ghost use Rattle.loss.specs.Difference.{differenceOf};
 ghost use Rattle.servicebough.specs.Ticks.{TickMeets};
 ghost use Rattle.servicebough.specs.Answers.{answerSize, answerLeft, handed, walkHanded};
 
@@ -150,4 +155,36 @@ pub extern "C" fn bough_walk(
     );
     write_answer(w, answer);
     w.end
+}
+
+// A Reply checked.
+#[no_mangle]
+pub extern "C" fn bough_reply_check(reply: &[u8]) -> u32
+    ensures { λ n. ⌜ n ≡ firstOf (replyRows (now (reply .entry))) ⌝ }
+{
+    reply::check(reply)
+}
+
+// The next block of a Reply at or after a place.
+#[no_mangle]
+pub extern "C" fn bough_reply_next(reply: &[u8], place: u32, block: &mut [u8]) -> u32
+    ensures { λ n. ⌜ copied n (now (block .exit)) ≡ copiedNext (now (reply .entry)) place (now (block .entry)) ⌝ }
+{
+    reply::copy_next(reply, place as usize, block)
+}
+
+// The loss between two Replies.
+#[no_mangle]
+pub extern "C" fn bough_reply_loss(first: &[u8], second: &[u8], links: &mut [u8]) -> u32
+    ensures { λ n. ⌜ written n (now (links .exit)) ≡ lossOf (now (first .entry)) (now (second .entry)) (now (links .entry)) ⌝ }
+{
+    loss::loss(first, second, links)
+}
+
+// The time between two arrivals.
+#[no_mangle]
+pub extern "C" fn bough_arrival_difference(later: u32, earlier: u32) -> i32
+    ensures { λ d. ⌜ d ≡ differenceOf later earlier ⌝ }
+{
+    loss::difference(later, earlier)
 }
