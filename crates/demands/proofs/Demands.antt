@@ -1,23 +1,37 @@
 -- What is proved of the demands, in one page: each line is a theorem, and cites its proof. The demands themselves are in specs/:
--- Engine.antt (1 and 2), Clock.antt (2, the times), Walk.antt (3), Entries.antt (how C is handed what they speak of).
-use Prim.Native.Nat.{ℕ}
+-- Engine.antt (1 and 2), Clock.antt (2, the times), Walk.antt (3), Read.antt (3, of what is read), Entries.antt (how C is handed what they
+-- speak of).
+use Prim.Native.Nat.{ℕ, _≤_}
 use mathlib.Core.List.{List, []}
 use mathlib.Core.Path.{_≡_}
+use denote.Ref.{RefT, now}
+use lib.ListN.{length}
 use Rattle.rows.specs.Rows.{NoneApplies}
 use Rattle.clock.specs.declared.Clock.{Clock}
 use Rattle.clock.specs.declared.Units.{Units}
 use Rattle.clock.specs.Clock.{startOf, advanceOf, arrivalOf}
 use Rattle.clock.specs.Unix.{unixOf}
 use Rattle.message.specs.Format.{most}
+use Rattle.response.specs.declared.Block.{Block}
+use Rattle.response.specs.Bytes.{blockBytes}
+use Rattle.engine.specs.Answer.{sentHome}
 use Rattle.engine.specs.Step.{stepOf}
+use Rattle.reply.specs.declared.Standard.{Standard}
+use Rattle.reply.specs.declared.Handed.{Handed}
+use Rattle.reply.specs.declared.Reader.{Reader}
+use Rattle.reply.specs.Check.{Readable}
+use Rattle.reply.specs.Standard.{standardOf}
+use Rattle.reply.specs.Reader.{Opens, Calls, blocksOut}
 use Rattle.yard.specs.Walk.{Visit, walkRows}
 use Rattle.demands.specs.Engine.{Engine, Call, run, rows, EngineMeets}
 use Rattle.demands.specs.Clock.{Start, Advance, DemandClock, DemandUnix}
-use Rattle.demands.specs.Walk.{Walker, callAt, WalkMeets}
+use Rattle.demands.specs.Walk.{Walker, callAt, Run, WalkMeets}
+use Rattle.demands.specs.Read.{ReadTruth, BlockFits, Says}
 use Rattle.demands.specs.Example.{twoRouters, twoTimes, paperQuery, startWith}
 use Rattle.demands.proofs.EngineMet.{engine-meets, no-other-engine}
 use Rattle.demands.proofs.ClockMet.{clock-meets, no-other-clock, unix-meets, no-other-unix}
 use Rattle.demands.proofs.WalkMet.{walkTold, walk-meets, no-other-walk}
+use Rattle.demands.proofs.ReadMet.{walk-readable, reading-true, one-reading, reads-back}
 use Rattle.demands.proofs.Worked.{failing, examples, worked, starts}
 
 -- 1 and 2. The engine meets them, and whatever does gives its outcome in every call
@@ -50,12 +64,32 @@ pub walk-is-one : (engine : Engine) (walk : Walker) → EngineMeets engine → W
     → walk yard times v output ≡ walkTold yard times v output
 walk-is-one = no-other-walk
 
+-- Reading a walk tells the truth. A walk that comes home brings a Reply that can be read; a reader that is opened on it and called once for
+-- each visit, or oftener, hands out what 3 says of the visits; and each field of what it hands out is the router's, where the numbers fit
+pub walk-can-be-read : (yard times : List ℕ) (v : Visit) (output : List ℕ) (visits : List Visit) (last : List ℕ)
+    → NoneApplies (walkRows yard times v (length output)) → NoneApplies (rows (callAt yard times v)) → Run stepOf yard times v visits sentHome last → Readable last
+walk-can-be-read = walk-readable
+
+pub reading-is-true : (yard times : List ℕ) (v : Visit) (output : List ℕ) (visits : List Visit) (last : List ℕ)
+    → NoneApplies (walkRows yard times v (length output)) → NoneApplies (rows (callAt yard times v)) → Run stepOf yard times v visits sentHome last
+    → (message : RefT (List ℕ)) (reader left : Reader) (hs : List Handed) → now message ≡ last → Opens message reader → Calls reader hs left
+    → length visits ≤ length hs → ReadTruth yard times v visits sentHome last (blocksOut hs)
+reading-is-true = reading-true
+
+-- whatever tells that truth is that list
+pub reading-is-one : (yard times : List ℕ) (v : Visit) (visits : List Visit) (end : ℕ) (last : List ℕ) (xs ys : List Standard)
+    → ReadTruth yard times v visits end last xs → ReadTruth yard times v visits end last ys → xs ≡ ys
+reading-is-one = one-reading
+
+pub fields-are-read : (b : Block) → BlockFits b → Says b (standardOf (blockBytes b))
+fields-are-read = reads-back
+
 -- what it says of traces that the first router accepts is said of some: P1's is one
 pub some-trace-starts : NoneApplies (walkRows (twoRouters 0) twoTimes (startWith (paperQuery 10)) most)
     × NoneApplies (rows (callAt (twoRouters 0) twoTimes (startWith (paperQuery 10))))
 some-trace-starts = starts
 
--- The wrong programs that the demands shut out are in ShutOut.antt; the six entries that a host calls, and what they leave, in
+-- The wrong programs that the demands shut out are in ShutOut.antt; the ten entries that a host calls, and what they leave, in
 -- Entries.antt. P1 to P8: none of the worked examples fails
 pub worked-through : failing examples ≡ []
 worked-through = worked

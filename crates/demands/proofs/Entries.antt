@@ -1,4 +1,4 @@
--- Of the code: the six entries that a host calls. Each has its own theorem, with no `requires`: on every input it ends, does nothing
+-- Of the code: the ten entries that a host calls. Each has its own theorem, with no `requires`: on every input it ends, does nothing
 -- undefined, and leaves what its `ensures` says (`Post`), which here is carried to the demands.
 use Prim.Native.Nat.{ℕ, _+_, _^_, _≤_, _<_}
 use mathlib.Core.Path.{_≡_, refl, sym, ap, subst, _∙_}
@@ -48,6 +48,14 @@ use Rattle.servicebough.proofs.bough_engine_step.Reads as engine-step-ensures
 use Rattle.servicebough.proofs.bough_walk.Statement as walk
 use Rattle.servicebough.proofs.bough_walk.Met as walk-proof
 use Rattle.servicebough.proofs.bough_walk.Reads as walk-ensures
+use Rattle.servicebough.proofs.bough_reply_check.Statement as reply-check
+use Rattle.servicebough.proofs.bough_reply_check.Met as reply-check-proof
+use Rattle.servicebough.proofs.bough_reply_next.Statement as reply-next
+use Rattle.servicebough.proofs.bough_reply_next.Met as reply-next-proof
+use Rattle.servicebough.proofs.bough_reply_loss.Statement as reply-loss
+use Rattle.servicebough.proofs.bough_reply_loss.Met as reply-loss-proof
+use Rattle.servicebough.proofs.bough_arrival_difference.Statement as arrival-difference
+use Rattle.servicebough.proofs.bough_arrival_difference.Met as arrival-difference-proof
 use Rattle.demands.specs.Engine.{Call, run, rows, Demand1, Demand2}
 use Rattle.demands.specs.Walk.{Told, told, callAt, Run, lastReceived, Truth, Demand3}
 use Rattle.demands.specs.Entries.{HandsTick, stepCall, HandsWalk, AnswerTells}
@@ -72,6 +80,18 @@ engine-steps = engine-step-proof.met
 
 pub walk-is-walked : {M : Type 1} → walk.statement M
 walk-is-walked = walk-proof.met
+
+pub reply-is-checked : {M : Type 1} → reply-check.statement M
+reply-is-checked = reply-check-proof.met
+
+pub next-is-handed : {M : Type 1} → reply-next.statement M
+next-is-handed = reply-next-proof.met
+
+pub loss-is-told : {M : Type 1} → reply-loss.statement M
+loss-is-told = reply-loss-proof.met
+
+pub difference-is-told : {M : Type 1} → arrival-difference.statement M
+difference-is-told = arrival-difference-proof.met
 
 -- what a clock's entry ensures is how a tick is handed over
 hands-tick : (k : Tick) (out : List ℕ) (number : ℕ) (left : List ℕ) → TickMeets k out number left → HandsTick k out number left

@@ -6,5 +6,6 @@ pub mod Entries
 mod EngineMet
 mod ClockMet
 mod WalkMet
+mod ReadMet
 mod Opened
 mod Worked

@@ -39,10 +39,10 @@ abbrev pub walkTold : Walker
 walkTold yard times v output = let w = walkOf yard times v (length output) in told (w .end) (length (w .visits)) (w .last) output
 
 -- what a call leaves tells what the definition of the walk sends
-record As (o : Outcome) (s : Sent) : Type 0 where
-  answer : o .answer ≡ s .answer
-  sends : sent o ≡ s .message
-  is-to : to o ≡ s .note .destination
+pub record As (o : Outcome) (s : Sent) : Type 0 where
+  pub answer : o .answer ≡ s .answer
+  pub sends : sent o ≡ s .message
+  pub is-to : to o ≡ s .note .destination
 
 module _ (yard times : List ℕ) where
   abbrev out : Visit → Outcome
@@ -51,7 +51,7 @@ module _ (yard times : List ℕ) where
   abbrev at : Visit → Sent
   at v = sentAt yard times v
 
-  as-sent : (v : Visit) → As (out v) (at v)
+  pub as-sent : (v : Visit) → As (out v) (at v)
   unfolding blank
   as-sent v =
       let o = out v in
@@ -163,7 +163,7 @@ mapped-at f (x ∷ xs) zero d h = refl
 mapped-at f (x ∷ xs) (suc k) d h = mapped-at f xs k d (omega arith)
 
 -- so many zeros, and some visits
-blank-length : (n : ℕ) → length (blank n) ≡ n
+pub blank-length : (n : ℕ) → length (blank n) ≡ n
 unfolding blank
 blank-length n = length-replicate n 0
 

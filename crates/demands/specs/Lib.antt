@@ -2,5 +2,6 @@
 pub mod Engine
 pub mod Clock
 pub mod Walk
+pub mod Read
 pub mod Entries
 pub mod Example
