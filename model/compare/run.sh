@@ -1,5 +1,5 @@
 #!/bin/sh
-# Compares the archive, and the package fast, with the model: run.sh clock|engine|walk CASES SEED [exact]. Makes the archive if it is not there.
+# Compares the archive, and the package fast, with the model: run.sh clock|engine|walk|reply CASES SEED [exact]. Makes the archive if it is not there.
 set -eu
 cd "$(dirname "$0")/../.."
 . model/compare/cross.sh

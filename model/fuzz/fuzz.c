@@ -4,12 +4,15 @@
  * what the model leaves lies on the heap. The model is compiled with the fuzzer's counters, so that inputs that take it
  * somewhere new are kept.
  *
- * Input: byte 0 the entry (modulo 3: engine, walk, clock), byte 1 bits (1: leave the check words as they are; 2: pages before). Then
+ * Input: byte 0 the entry (modulo 4: engine, walk, clock, replies), byte 1 bits (1: leave the check words as they are; 2: pages
+ * before). Then
  *   engine: destination, receiving interface, TTL, time (4 each), lengths of output, record, message and recent list (2
  *           each), message, recent list, and the sheet in all that is left;
  *   walk:   start router, receiving interface, destination, TTL (4 each), lengths of output, answer, message and times (2
  *           each), message, times, and the yard in all that is left;
- *   clock:  the length lent (1), r, y and reading (8 each). */
+ *   clock:  the length lent (1), r, y and reading (8 each);
+ *   replies: two arrival times and a place (4 each), lengths of block, links and first Reply (2 each), that Reply, and the second
+ *           in all that is left. */
 #define _GNU_SOURCE
 #include <servicebough.h>
 #include <stdbool.h>
@@ -26,6 +29,10 @@ uint32_t model_engine_step(const uint8_t *, size_t, uint32_t, uint32_t, uint32_t
                            size_t, uint8_t *, size_t, uint8_t *, size_t);
 uint32_t model_walk(const uint8_t *, size_t, const uint32_t *, size_t, const uint8_t *, size_t, uint32_t, uint32_t, uint32_t,
                     uint32_t, uint8_t *, size_t, uint8_t *, size_t);
+uint32_t model_reply_check(const uint8_t *, size_t);
+uint32_t model_reply_next(const uint8_t *, size_t, uint32_t, uint8_t *, size_t);
+uint32_t model_reply_loss(const uint8_t *, size_t, const uint8_t *, size_t, uint8_t *, size_t);
+int32_t model_arrival_difference(uint32_t, uint32_t);
 int LLVMFuzzerTestOneInput(const uint8_t *data, size_t size);
 
 enum { MESSAGE, SHEET, RECENT, OUTPUT, RECORD, AREAS };
@@ -88,12 +95,18 @@ static struct pair lend(int area, struct input *in, size_t length, bool before)
     return p;
 }
 
-static void same(struct pair *p, const char *what)
+static void alike(const struct pair *p, const char *what)
 {
     if (memcmp(p->ours, p->theirs, p->length) != 0) {
         fprintf(stderr, "fuzz: %s differs\n", what);
         abort();
     }
+}
+
+/* At the end of a call, when what was lent is needed no longer. */
+static void same(struct pair *p, const char *what)
+{
+    alike(p, what);
     free(p->theirs);
 }
 
@@ -184,15 +197,53 @@ static void clock_entries(struct input *in, bool before)
     same(&out2, "what an advance handed over");
 }
 
+static uint32_t checked(const struct pair *reply)
+{
+    uint32_t refusal = bough_reply_check(reply->ours, reply->length);
+    equal(refusal, model_reply_check(reply->theirs, reply->length), "a Reply's check");
+    return refusal;
+}
+
+static void next_block(const struct pair *reply, uint32_t place, const struct pair *block)
+{
+    equal(bough_reply_next(reply->ours, reply->length, place, block->ours, block->length),
+          model_reply_next(reply->theirs, reply->length, place, block->theirs, block->length), "the place behind a block");
+    alike(block, "the block");
+}
+
+/* A block is asked for at every place of a Reply that can be read, and a little past its end. */
+static void replies(struct input *in, bool before)
+{
+    uint32_t later = (uint32_t)number(in, 4), earlier = (uint32_t)number(in, 4), place = (uint32_t)number(in, 4);
+    size_t block_len = number(in, 2), links_len = number(in, 2), first_len = number(in, 2);
+    struct pair block = lend(RECORD, NULL, block_len, before), links = lend(OUTPUT, NULL, links_len, before);
+    struct pair first = lend(MESSAGE, in, first_len, before);
+    struct pair second = lend(SHEET, in, in->left < AREA ? in->left : AREA, before);
+    bool read = checked(&first) == 0;
+    checked(&second);
+    next_block(&first, place, &block);
+    for (uint32_t at = 0; read && at < first_len + 4; at++)
+        next_block(&first, at, &block);
+    equal(bough_reply_loss(first.ours, first_len, second.ours, second.length, links.ours, links_len),
+          model_reply_loss(first.theirs, first_len, second.theirs, second.length, links.theirs, links_len), "the loss's number");
+    equal((uint32_t)bough_arrival_difference(later, earlier), (uint32_t)model_arrival_difference(later, earlier), "the difference");
+    same(&first, "the first Reply");
+    same(&second, "the second Reply");
+    same(&block, "the block");
+    same(&links, "the links");
+}
+
 int LLVMFuzzerTestOneInput(const uint8_t *data, size_t size)
 {
     struct input in = {.at = data, .left = size};
     uint64_t entry = number(&in, 1), bits = number(&in, 1);
-    if (entry % 3 == 0)
+    if (entry % 4 == 0)
         engine(&in, (bits & 1) == 0, (bits & 2) != 0);
-    else if (entry % 3 == 1)
+    else if (entry % 4 == 1)
         walk(&in, (bits & 1) == 0, (bits & 2) != 0);
-    else
+    else if (entry % 4 == 2)
         clock_entries(&in, (bits & 2) != 0);
+    else
+        replies(&in, (bits & 2) != 0);
     return 0;
 }

@@ -154,7 +154,7 @@ impl Router {
 }
 
 /// A block whose length or type is none of its kind's, or just is.
-fn odd_block(rng: &mut Rng) -> Vec<u8> {
+pub fn odd_block(rng: &mut Rng) -> Vec<u8> {
     let length = rng.pick(&[3, 4, 5, 6, 7, 8, 9, 10, 11, 12, 48, 51, 52, 53, 56, 264, 308]);
     let mut block = augmented(length, 0);
     block[0] = rng.pick(&[0, 1, 2, 3, 4, 5, 5, 5, 6, 255]);
@@ -175,7 +175,7 @@ fn noise_in_blocks(blocks: &mut [u8], rng: &mut Rng) {
 }
 
 /// A change to a message that mostly breaks one rule of it.
-fn spoil_message(message: &mut Vec<u8>, rng: &mut Rng) {
+pub fn spoil_message(message: &mut Vec<u8>, rng: &mut Rng) {
     let at = rng.below(message.len() as u64) as usize;
     match rng.below(9) {
         0 => message.truncate(at),

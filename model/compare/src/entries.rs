@@ -42,6 +42,23 @@ mod c {
             answer: *mut u8,
             answer_len: usize,
         ) -> u32;
+        pub fn bough_reply_check(reply: *const u8, reply_len: usize) -> u32;
+        pub fn bough_reply_next(
+            reply: *const u8,
+            reply_len: usize,
+            place: u32,
+            block: *mut u8,
+            block_len: usize,
+        ) -> u32;
+        pub fn bough_reply_loss(
+            first: *const u8,
+            first_len: usize,
+            second: *const u8,
+            second_len: usize,
+            links: *mut u8,
+            links_len: usize,
+        ) -> u32;
+        pub fn bough_arrival_difference(later: u32, earlier: u32) -> i32;
     }
 }
 
@@ -108,4 +125,22 @@ pub fn walk(yard: &[u8], times: &[u32], start: Start, output: &mut [u8], answer:
             answer.len(),
         )
     }
+}
+
+pub fn reply_check(reply: &[u8]) -> u32 {
+    unsafe { c::bough_reply_check(reply.as_ptr(), reply.len()) }
+}
+
+pub fn reply_next(reply: &[u8], place: u32, block: &mut [u8]) -> u32 {
+    unsafe { c::bough_reply_next(reply.as_ptr(), reply.len(), place, block.as_mut_ptr(), block.len()) }
+}
+
+pub fn reply_loss(first: &[u8], second: &[u8], links: &mut [u8]) -> u32 {
+    unsafe {
+        c::bough_reply_loss(first.as_ptr(), first.len(), second.as_ptr(), second.len(), links.as_mut_ptr(), links.len())
+    }
+}
+
+pub fn arrival_difference(later: u32, earlier: u32) -> i32 {
+    unsafe { c::bough_arrival_difference(later, earlier) }
 }

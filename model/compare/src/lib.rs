@@ -4,6 +4,7 @@
 pub mod cases;
 pub mod entries;
 pub mod lent;
+pub mod replies;
 pub mod sides;
 pub mod tables;
 pub mod work;

@@ -14,6 +14,10 @@ pub struct Side {
     pub clock_arrival: fn(u64) -> u32,
     pub step: Step,
     pub walk: Walk,
+    pub reply_check: fn(&[u8]) -> u32,
+    pub reply_next: fn(&[u8], u32, &mut [u8]) -> u32,
+    pub reply_loss: fn(&[u8], &[u8], &mut [u8]) -> u32,
+    pub arrival_difference: fn(u32, u32) -> i32,
 }
 
 /// Message, arrival, sheet, recent list, output, record.
@@ -29,6 +33,10 @@ pub const LIBRARY: Side = Side {
     clock_arrival: entries::clock_arrival,
     step: entries::engine_step,
     walk: entries::walk,
+    reply_check: entries::reply_check,
+    reply_next: entries::reply_next,
+    reply_loss: entries::reply_loss,
+    arrival_difference: entries::arrival_difference,
 };
 
 pub const FAST: Side = Side {
@@ -39,6 +47,10 @@ pub const FAST: Side = Side {
     clock_arrival: fast::clock::arrival,
     step: fast::engine::step,
     walk: fast::walk::walk,
+    reply_check: fast::reply::check,
+    reply_next: fast::reply::next,
+    reply_loss: fast::reply::loss,
+    arrival_difference: fast::reply::arrival_difference,
 };
 
 pub const MODEL: Side = Side {
@@ -57,9 +69,14 @@ pub const MODEL: Side = Side {
         let start = model::walk::Start { message, router, receiving, destination, ttl };
         model::entries::walk(yard, times, start, output, answer).end
     },
+    reply_check: model::entries::reply_check,
+    reply_next: model::entries::reply_next,
+    reply_loss: model::entries::reply_loss,
+    arrival_difference: model::reply::arrival_difference,
 };
 
-/// Not a fourth opinion but a floor: every byte of message, sheet or yard and recent list read once, by words.
+/// Not a fourth opinion but a floor: every byte of messages, sheet or yard and recent list read once, by words. A Reply is read
+/// where it is checked.
 pub const ONE_PASS: Side = Side {
     name: "one pass over the bytes",
     clock_start: |_, _| 0,
@@ -68,6 +85,10 @@ pub const ONE_PASS: Side = Side {
     clock_arrival: |_| 0,
     step: |message, _, sheet, recent, _, _| (words(message) ^ words(sheet) ^ words(recent)) as u32,
     walk: |yard, _, start, _, _| (words(yard) ^ words(start.message)) as u32,
+    reply_check: |reply| words(reply) as u32,
+    reply_next: |_, _, _| 0,
+    reply_loss: |first, second, _| (words(first) ^ words(second)) as u32,
+    arrival_difference: |_, _| 0,
 };
 
 /// The sum of all words, eight a turn, and of the bytes that are left.

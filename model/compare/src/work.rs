@@ -6,8 +6,9 @@ use crate::yards::Walk;
 use fast::alone;
 use fast::engine::Arrival;
 use fast::walk::Start;
-use model::build::{ip, mend_all, standard, Header, InterfaceEntry, RouteEntry, SheetPlan};
+use model::build::{ip, mend_all, standard, standard_with, Header, InterfaceEntry, RouteEntry, SheetPlan};
 use model::recent::{Entry, Recent};
+use model::reply::Fields;
 use model::worked;
 use std::hint::black_box;
 
@@ -25,6 +26,10 @@ pub enum Call {
     ClockArrival(u64),
     Step(Step),
     Walk(Walk),
+    CheckReply(Vec<u8>),
+    /// Checked, and all its blocks asked for one by one, as a C caller does.
+    ReadReply(Vec<u8>),
+    Loss([Vec<u8>; 2]),
     /// A part of a step by itself, which `fast` alone can show.
     CheckSheet(Vec<u8>),
     ChooseRoute(Vec<u8>),
@@ -53,6 +58,11 @@ impl Call {
             Call::ClockArrival(y) => repeat(turns, || (side.clock_arrival)(black_box(*y)).into()),
             Call::Step(step) => lent.step(step, side, turns),
             Call::Walk(walk) => lent.walk(walk, side, turns),
+            Call::CheckReply(reply) => repeat(turns, || (side.reply_check)(black_box(reply)).into()),
+            Call::ReadReply(reply) => repeat(turns, || lent.read(black_box(reply), side)),
+            Call::Loss([first, second]) => {
+                repeat(turns, || (side.reply_loss)(black_box(first), second, &mut lent.output[..832]).into())
+            }
             Call::CheckSheet(sheet) => repeat(turns, || alone::check_sheet(black_box(sheet)).is_some().into()),
             Call::ChooseRoute(sheet) => match alone::check_sheet(sheet) {
                 Some(sheet) => repeat(turns, || alone::choose_route(&sheet, black_box(SOURCE), GROUP).into()),
@@ -96,6 +106,21 @@ impl Lent {
             let start = Start { message: black_box(&walk.message), router, receiving, destination, ttl };
             (side.walk)(&walk.yard, &walk.times, start, output, answer).into()
         })
+    }
+
+    /// The number of blocks.
+    fn read(&mut self, reply: &[u8], side: &Side) -> u64 {
+        if (side.reply_check)(reply) != 0 {
+            return 0;
+        }
+        let (mut place, mut blocks) = (20, 0);
+        loop {
+            place = (side.reply_next)(reply, place, &mut self.output[..52]);
+            if place == 0 {
+                return blocks;
+            }
+            blocks += 1;
+        }
     }
 }
 
@@ -335,6 +360,20 @@ fn late_drops() -> Vec<Work> {
     list.map(|(number, what, step)| dropped(number, what, 2, step)).into()
 }
 
+/// A Reply of as many blocks as there can be, with these counts.
+fn reply(count: u64) -> Vec<u8> {
+    let fields = Fields { input: count, output: 2 * count, ..Fields::default() };
+    header(3).with(&vec![standard_with(fields); 27])
+}
+
+fn replies() -> Vec<Work> {
+    vec![
+        Work::new("a Reply of 27 blocks checked", Call::CheckReply(reply(5)), 0),
+        Work::new("a Reply of 27 blocks read whole", Call::ReadReply(reply(5)), 27),
+        Work::new("the loss of two Replies of 27 blocks", Call::Loss([reply(5), reply(9)]), 0),
+    ]
+}
+
 fn clocks() -> Vec<Work> {
     let second = 1 << 16;
     let now = 3_900_000_000 << 16;
@@ -382,7 +421,7 @@ fn walks() -> Vec<Work> {
 
 /// What every side does.
 pub fn all() -> Vec<Work> {
-    let works = [checks(), steps(), choices(), lists(), early_drops(), late_drops(), walks(), clocks()];
+    let works = [checks(), steps(), choices(), lists(), early_drops(), late_drops(), walks(), replies(), clocks()];
     works.into_iter().flatten().collect()
 }
 

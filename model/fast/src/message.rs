@@ -12,7 +12,8 @@ const QUERY: u8 = 1;
 
 /// Type 4, length 52 and zero, as a block begins that a router writes; of a block received the zero is not looked at.
 pub const STANDARD_HEAD: u32 = u32::from_le_bytes([4, 0, STANDARD as u8, 0]);
-const TYPE_AND_LENGTH: u32 = u32::from_le_bytes([!0, !0, !0, 0]);
+/// What of the first 4 bytes is type and length, of a block as of a header.
+pub const TYPE_AND_LENGTH: u32 = u32::from_le_bytes([!0, !0, !0, 0]);
 const AUGMENTED: u8 = 5;
 
 /// A well-formed message. A Query has no blocks.
@@ -79,10 +80,10 @@ fn check_header(header: &[u8; HEADER]) -> Result<(), u32> {
     Ok(())
 }
 
-/// How many type 4 blocks a Request has, and where the last begins; None where its blocks do not fill it, or the first is of
+/// How many type 4 blocks a Request or Reply has, and where the last begins; None where its blocks do not fill it, or the first is of
 /// another type.
 #[inline(always)]
-fn blocks(message: &[u8]) -> Option<(usize, usize)> {
+pub fn blocks(message: &[u8]) -> Option<(usize, usize)> {
     let mut rest = &message[HEADER..];
     let (mut standards, mut left_at_last) = (0, 0);
     while !rest.is_empty() {
@@ -100,13 +101,13 @@ fn blocks(message: &[u8]) -> Option<(usize, usize)> {
 }
 
 #[inline(always)]
-fn is_standard(rest: &[u8]) -> bool {
+pub fn is_standard(rest: &[u8]) -> bool {
     rest.len() >= STANDARD && le32(rest, 0) & TYPE_AND_LENGTH == STANDARD_HEAD
 }
 
 /// The length of the Augmented block that begins here. There are few of them.
 #[inline(never)]
-fn augmented(rest: &[u8]) -> Option<usize> {
+pub fn augmented(rest: &[u8]) -> Option<usize> {
     let head = rest.first_chunk::<3>()?;
     let length = usize::from(be16(head, 1));
     (head[0] == AUGMENTED && length >= 8 && length % 4 == 0 && length <= rest.len()).then_some(length)

@@ -2,7 +2,7 @@
 
 use model::engine::{step, Arrival};
 use model::walk::Start;
-use model::{clock, entries};
+use model::{clock, entries, reply};
 use std::slice::{from_raw_parts, from_raw_parts_mut};
 
 /// # Safety
@@ -81,4 +81,44 @@ pub unsafe extern "C" fn model_walk(
     let (yard, times) = (from_raw_parts(yard, yard_len), from_raw_parts(times, times_len));
     let (output, answer) = (from_raw_parts_mut(output, output_len), from_raw_parts_mut(answer, answer_len));
     entries::walk(yard, times, start, output, answer).end
+}
+
+/// # Safety
+/// `reply` is a slice that is there.
+#[no_mangle]
+pub unsafe extern "C" fn model_reply_check(reply: *const u8, reply_len: usize) -> u32 {
+    entries::reply_check(from_raw_parts(reply, reply_len))
+}
+
+/// # Safety
+/// As of [`model_engine_step`].
+#[no_mangle]
+pub unsafe extern "C" fn model_reply_next(
+    reply: *const u8,
+    reply_len: usize,
+    place: u32,
+    block: *mut u8,
+    block_len: usize,
+) -> u32 {
+    entries::reply_next(from_raw_parts(reply, reply_len), place, from_raw_parts_mut(block, block_len))
+}
+
+/// # Safety
+/// As of [`model_engine_step`].
+#[no_mangle]
+pub unsafe extern "C" fn model_reply_loss(
+    first: *const u8,
+    first_len: usize,
+    second: *const u8,
+    second_len: usize,
+    links: *mut u8,
+    links_len: usize,
+) -> u32 {
+    let (first, second) = (from_raw_parts(first, first_len), from_raw_parts(second, second_len));
+    entries::reply_loss(first, second, from_raw_parts_mut(links, links_len))
+}
+
+#[no_mangle]
+pub extern "C" fn model_arrival_difference(later: u32, earlier: u32) -> i32 {
+    reply::arrival_difference(later, earlier)
 }

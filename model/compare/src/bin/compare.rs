@@ -1,15 +1,16 @@
 //! Compares the library's entries, and the package `fast`, with the model on random cases:
 //!
-//!     compare clock|engine|walk CASES SEED [exact]
+//!     compare clock|engine|walk|reply CASES SEED [exact]
 //!     compare seeds CASES SEED FOLDER
 //!
 //! Every lent buffer has noise in it and guard bytes round it; number, buffers and guards must come out
 //! the same. `exact` leaves the guards out, for a tool that watches the heap. Prints how often each
-//! number and each forwarding code was met. Exit status 1 at the first difference, which is printed.
+//! number, each forwarding code and each verdict on a link was met. Exit status 1 at the first difference, which is printed.
 //! `seeds` writes cases as inputs of the fuzz target instead.
 
 use compare::cases::{Router, Step};
 use compare::lent::{Guard, Lent};
+use compare::replies::{self, Replies};
 use compare::sides::{Side, FAST, LIBRARY, MODEL};
 use compare::yards::{self, Walk};
 use fast::walk::Start;
@@ -17,6 +18,7 @@ use model::bytes::be32;
 use model::clock::LIMIT;
 use model::engine::{REPLIED, SENT_ON};
 use model::message::{blocks, BlockType};
+use model::reply::read;
 use model::rng::Rng;
 use std::collections::BTreeMap;
 use std::path::Path;
@@ -165,10 +167,61 @@ fn walk_case(walk: &Walk, rng: &mut Rng, guard: Guard, met: &mut Met) {
     }
 }
 
+// ---- reply ----------------------------------------------------------------------------------------
+
+/// Both Replies checked, and of the first the block at a place and all from 20 on.
+fn reader_case(replies: &Replies, rng: &mut Rng, guard: Guard, met: &mut Met) {
+    let told = || format!("{replies:?}");
+    for reply in [&replies.first, &replies.second] {
+        let lent = Lent::of(reply, guard, rng);
+        met.count("check", compared(&lent, |side, reply| u64::from((side.reply_check)(reply.slice())), told).0);
+    }
+    let lends = [Lent::of(&replies.first, guard, rng), Lent::noise(replies.block, guard, rng)];
+    let next = |place: u32| {
+        let call = |side: &Side, lends: &mut [Lent; 2]| {
+            let [reply, block] = lends.each_mut().map(Lent::slice);
+            u64::from((side.reply_next)(reply, place, block))
+        };
+        compared(&lends, call, || format!("next at {place}: {replies:?}")).0 as u32
+    };
+    met.count("next", u64::from(next(replies.place) != 0));
+    let (mut place, mut blocks) = (next(20), 0);
+    while place != 0 {
+        (place, blocks) = (next(place), blocks + 1);
+    }
+    met.count("blocks read", blocks);
+}
+
+fn loss_case(replies: &Replies, rng: &mut Rng, guard: Guard, met: &mut Met) {
+    let lends = [
+        Lent::of(&replies.first, guard, rng),
+        Lent::of(&replies.second, guard, rng),
+        Lent::noise(replies.links, guard, rng),
+    ];
+    let call = |side: &Side, lends: &mut [Lent; 3]| {
+        let [first, second, links] = lends.each_mut().map(Lent::slice);
+        u64::from((side.reply_loss)(first, second, links))
+    };
+    let (number, mut left) = compared(&lends, call, || format!("{replies:?}"));
+    met.count("loss", number);
+    if number == 0 {
+        let links = read(&replies.first).map_or(0, |blocks| blocks.len() - 1);
+        left[2].slice().chunks(32).take(links).for_each(|link| met.count("verdict", link[0].into()));
+    }
+}
+
+fn reply_case(replies: &Replies, rng: &mut Rng, guard: Guard, met: &mut Met) {
+    reader_case(replies, rng, guard, met);
+    loss_case(replies, rng, guard, met);
+    let Replies { later, earlier, .. } = *replies;
+    let difference = |side: &Side, (): &mut ()| u64::from((side.arrival_difference)(later, earlier) as u32);
+    compared(&(), difference, || format!("difference {later} {earlier}"));
+}
+
 // ---- the fuzz target's inputs ---------------------------------------------------------------------
 
-/// Its entry, four numbers of 4 bytes, four lengths of 2, then the slices.
-fn seed(entry: u8, numbers: [u32; 4], lengths: [usize; 4], slices: &[&[u8]]) -> Vec<u8> {
+/// Its entry, numbers of 4 bytes, lengths of 2, then the slices.
+fn seed(entry: u8, numbers: &[u32], lengths: &[usize], slices: &[&[u8]]) -> Vec<u8> {
     let mut bytes = vec![entry, 1];
     bytes.extend(numbers.iter().flat_map(|number| number.to_be_bytes()));
     bytes.extend(lengths.iter().flat_map(|length| (*length as u16).to_be_bytes()));
@@ -182,7 +235,7 @@ fn write_seeds(cases: u64, rng: &mut Rng, folder: &Path) -> io::Result<()> {
         let numbers = [arrival.destination, arrival.receiving, arrival.ttl, arrival.time];
         let lengths = [output, record, message.len(), recent.len()];
         if message.len() <= 2000 {
-            fs::write(folder.join(format!("step{number}")), seed(0, numbers, lengths, &[&message, &recent, &sheet]))?;
+            fs::write(folder.join(format!("step{number}")), seed(0, &numbers, &lengths, &[&message, &recent, &sheet]))?;
         }
         let walk = yards::random(rng);
         let numbers = [walk.router, walk.receiving, walk.destination, walk.ttl];
@@ -190,8 +243,16 @@ fn write_seeds(cases: u64, rng: &mut Rng, folder: &Path) -> io::Result<()> {
         let times: Vec<u8> = walk.times.iter().flat_map(|time| time.to_ne_bytes()).collect();
         fs::write(
             folder.join(format!("walk{number}")),
-            seed(1, numbers, lengths, &[&walk.message, &times, &walk.yard]),
+            seed(1, &numbers, &lengths, &[&walk.message, &times, &walk.yard]),
         )?;
+        let Replies { first, second, place, block, links, later, earlier } = replies::random(rng);
+        if first.len() <= 2000 {
+            let lengths = [block, links, first.len()];
+            fs::write(
+                folder.join(format!("reply{number}")),
+                seed(3, &[later, earlier, place], &lengths, &[&first, &second]),
+            )?;
+        }
     }
     Ok(())
 }
@@ -200,7 +261,7 @@ fn main() {
     let words: Vec<String> = std::env::args().skip(1).collect();
     let number = |at: usize| words.get(at).and_then(|word| word.parse::<u64>().ok());
     let (Some(what), Some(cases), Some(seed)) = (words.first(), number(1), number(2)) else {
-        eprintln!("usage: compare clock|engine|walk CASES SEED [exact]");
+        eprintln!("usage: compare clock|engine|walk|reply CASES SEED [exact]");
         exit(2);
     };
     let guard = Guard(if words.get(3).is_some_and(|word| word == "exact") { 0 } else { 64 });
@@ -210,6 +271,7 @@ fn main() {
         "clock" => (0..cases).for_each(|_| clock_case(&mut rng, guard, &mut met)),
         "engine" => engine_cases(cases, &mut rng, guard, &mut met),
         "walk" => (0..cases).for_each(|_| walk_case(&yards::random(&mut rng), &mut rng, guard, &mut met)),
+        "reply" => (0..cases).for_each(|_| reply_case(&replies::random(&mut rng), &mut rng, guard, &mut met)),
         "seeds" => {
             let folder = words.get(3).map_or(Path::new("."), Path::new);
             if let Err(error) = write_seeds(cases, &mut rng, folder) {
@@ -219,7 +281,7 @@ fn main() {
             return;
         }
         _ => {
-            eprintln!("compare: {what} is none of clock, engine, walk and seeds");
+            eprintln!("compare: {what} is none of clock, engine, walk, reply and seeds");
             exit(2);
         }
     }
