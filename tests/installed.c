@@ -207,11 +207,100 @@ static void walk_entry(void)
     expect(ours.output[BOUGH_HEADER_SIZE + 26 * BOUGH_STANDARD_SIZE + BOUGH_BLOCK_CODE] == BOUGH_CODE_NO_SPACE, "no space");
 }
 
+/* ---- Replies -------------------------------------------------------------------------------------- */
+
+/* A Reply of 132 bytes: two blocks, the second with these counts, and an Augmented block between them. */
+static void reply(uint8_t *at, uint64_t received, uint64_t sent)
+{
+    uint8_t *one = header(at, BOUGH_TYPE_REPLY, 10), *between = block(one, first, 5), *other = put(between, 0x0500080000020000, 8);
+    block(other, last, 6);
+    put(one + BOUGH_BLOCK_INPUT_COUNT, received, 8);
+    put(other + BOUGH_BLOCK_OUTPUT_COUNT, sent, 8);
+}
+
+static void check_entry(void)
+{
+    uint8_t ours[132];
+    reply(ours, 1, 2);
+    expect(bough_reply_check(ours, sizeof ours) == BOUGH_READ_OK, "a Reply that can be read");
+    expect(bough_reply_check(ours, BOUGH_HEADER_SIZE - 1) == BOUGH_READ_SIZE, "19 bytes");
+    expect(bough_reply_check(ours, sizeof ours - 1) == BOUGH_READ_BLOCKS, "a block cut short");
+    ours[2]++;
+    expect(bough_reply_check(ours, sizeof ours) == BOUGH_READ_HEADER, "a header of 21 bytes");
+    ours[0] = BOUGH_TYPE_REQUEST;
+    expect(bough_reply_check(ours, sizeof ours) == BOUGH_READ_TYPE, "a Request is not read");
+}
+
+static uint32_t next(struct lent *l, uint32_t place, size_t room)
+{
+    return bough_reply_next(l->message, 132, place, l->record, room);
+}
+
+static void next_entry(void)
+{
+    static struct lent ours, due;
+    memset(&ours, 0xEE, sizeof ours);
+    reply(ours.message, 1, 2);
+    due = ours;
+    expect(next(&ours, 21, 60) == 0 && next(&ours, 20, 51) == 0 && next(&ours, 132, 60) == 0, "no block is handed out");
+    expect(memcmp(&ours, &due, sizeof due) == 0, "without a block nothing is written");
+    memcpy(due.record, due.message + BOUGH_HEADER_SIZE, BOUGH_STANDARD_SIZE);
+    expect(next(&ours, BOUGH_HEADER_SIZE, 60) == 72 && memcmp(&ours, &due, sizeof due) == 0, "the first block");
+    memcpy(due.record, due.message + 80, BOUGH_STANDARD_SIZE);
+    expect(next(&ours, 72, 52) == 132 && memcmp(&ours, &due, sizeof due) == 0, "the second, behind an Augmented one");
+}
+
+static uint32_t loss(struct lent *l, size_t first_len, size_t second_len, size_t room)
+{
+    return bough_reply_loss(l->message, first_len, l->tables, second_len, l->output, room);
+}
+
+/* The second Reply has an Augmented block more, so that the two have not one length. */
+static void loss_entry(void)
+{
+    static struct lent ours, due;
+    memset(&ours, 0xEE, sizeof ours);
+    reply(ours.message, 100, 1000);
+    reply(ours.tables, 107, 1010);
+    put(ours.tables + 132, 0x0500080000020000, 8);
+    due = ours;
+    expect(loss(&ours, 132, 140, BOUGH_LINKS_SIZE - 1) == BOUGH_READ_ROOM, "831 bytes are too few");
+    expect(loss(&ours, 19, 20, BOUGH_LINKS_SIZE) == BOUGH_READ_SIZE, "the first Reply is tried first");
+    expect(loss(&ours, 132, 20, BOUGH_LINKS_SIZE) == BOUGH_READ_BLOCKS, "the second Reply is tried too");
+    expect(loss(&ours, 72, 140, BOUGH_LINKS_SIZE) == BOUGH_READ_PATH, "one block and two");
+    expect(memcmp(&ours, &due, sizeof due) == 0, "a refusal writes nothing");
+    put(put(put(put(due.output, 0, 8), 10, 8), 7, 8), 3, 8);
+    expect(loss(&ours, 132, 140, BOUGH_LINKS_SIZE) == BOUGH_READ_OK && memcmp(&ours, &due, sizeof due) == 0, "7 of 10 arrive");
+
+    /* fewer in the second, then more received than sent, then an input count of all ones */
+    static const uint64_t counts[][2] = {{107, 999}, {111, 1010}, {BOUGH_NOT_COUNTED, 1010}};
+    static const uint8_t verdicts[] = {BOUGH_LINK_FALLEN, BOUGH_LINK_SURPLUS, BOUGH_LINK_NOT_COUNTED};
+    for (int i = 0; i < 3; i++) {
+        reply(ours.tables, counts[i][0], counts[i][1]);
+        memset(due.output, 0, BOUGH_LINK_SIZE);
+        due.output[BOUGH_LINK_VERDICT] = verdicts[i];
+        expect(loss(&ours, 132, 140, BOUGH_LINKS_SIZE) == BOUGH_READ_OK, "a verdict's number");
+        expect(memcmp(ours.output, due.output, sizeof due.output) == 0, "a verdict in place of numbers");
+    }
+}
+
+static void difference_entry(void)
+{
+    expect(bough_arrival_difference(7, 5) == 2 && bough_arrival_difference(5, 7) == -2, "later and earlier");
+    expect(bough_arrival_difference(1, UINT32_MAX) == 2 && bough_arrival_difference(UINT32_MAX, 1) == -2, "across the wrap");
+    expect(bough_arrival_difference(0x80000000, 0) == INT32_MIN && bough_arrival_difference(0x7FFFFFFF, 0) == INT32_MAX,
+           "both ends");
+}
+
 int main(void)
 {
     clock_entries();
     engine_entry();
     walk_entry();
+    check_entry();
+    next_entry();
+    loss_entry();
+    difference_entry();
     printf("installed: %s\n", failed ? "failed" : "ok");
     return failed;
 }
