@@ -1,7 +1,7 @@
 -- What a walk sends home can be read, and what is read of it is the truth.
-use Prim.Native.Nat.{ℕ, zero, suc, _+_, _%_, _^_, _≤_, _<_}
+use Prim.Native.Nat.{ℕ, suc, _+_, _%_, _^_, _≤_, _<_}
 use mathlib.Core.Bool.{true, cond}
-use mathlib.Core.List.{List, [], _∷_, map}
+use mathlib.Core.List.{List, [], _∷_}
 use mathlib.Core.Logic.{⊎-elim}
 use mathlib.Core.Path.{_≡_, refl, sym, ap, _∙_}
 use native.Mathlib.Omega.{arith}
@@ -42,7 +42,7 @@ use Rattle.demands.specs.Engine.{Call, view, rows}
 use Rattle.demands.specs.Walk.{callAt, sent, did, Run, stays, group, nobody, goes, nth, lastReceived, Truth}
 use Rattle.demands.specs.Read.{ReadTruth, BlockFits, Says}
 use Rattle.demands.proofs.EngineMet.{product-block}
-use Rattle.demands.proofs.WalkMet.{blank-length, as-sent, walk-meets}
+use Rattle.demands.proofs.WalkMet.{blank-length, mapped-at, as-sent, walk-meets}
 
 -- a Reply by an accepted message's header
 reply-known : (m s : List ℕ) → Accepted m → headerOf s ≡ retyped reply (headerOf m) → length m ≤ length s → length s ≤ most → rightForm s ≡ true → Known s
@@ -100,12 +100,6 @@ module _ (yard times : List ℕ) where
   run-readable w (nobody on s h) none home = absurd (omega arith)
   run-readable w (goes router interface on s h later) none home = run-readable w later (λ k l. none (suc k) (omega arith)) home
 
--- element k of the blocks read is what was read of element k of their bytes
-read-at : (bs : List (List ℕ)) (k : ℕ) → k < length bs → getD (map standardOf bs) k noStandard ≡ standardOf (getD bs k [])
-read-at [] k h = absurd (omega arith)
-read-at (b ∷ bs) zero h = refl
-read-at (b ∷ bs) (suc k) h = read-at bs k (omega arith)
-
 -- what is read of a walk's Reply is the truth
 module _ (yard times : List ℕ) (v : Visit) (visits : List Visit) (end : ℕ) (last : List ℕ) (t : Truth yard times v visits end last) where
   long : length (standardsIn last) ≡ length (standardBlocks last)
@@ -114,7 +108,7 @@ module _ (yard times : List ℕ) (v : Visit) (visits : List Visit) (end : ℕ) (
 
   at : (k : ℕ) → k < length (standardsIn last) → getD (standardsIn last) k noStandard ≡ standardOf (getD (standardBlocks last) k [])
   unfolding standardsIn
-  at k h = read-at (standardBlocks last) k (rw long at h)
+  at k h = mapped-at standardOf (standardBlocks last) k [] noStandard (rw long at h)
 
   truth-read : ReadTruth yard times v visits end last (standardsIn last)
   truth-read =

@@ -157,10 +157,10 @@ module _ (code : ℕ) where
   coded-last (b ∷ c ∷ bs) (suc k) h = coded-last (c ∷ bs) k (omega arith)
 
 -- element k of a list that a function was applied to
-mapped-at : {A : Type 0} (f : A → List ℕ) (xs : List A) (k : ℕ) (d : A) → k < length xs → getD (map f xs) k [] ≡ f (getD xs k d)
-mapped-at f [] k d h = absurd (omega arith)
-mapped-at f (x ∷ xs) zero d h = refl
-mapped-at f (x ∷ xs) (suc k) d h = mapped-at f xs k d (omega arith)
+pub mapped-at : {A B : Type 0} (f : A → B) (xs : List A) (k : ℕ) (d : A) (e : B) → k < length xs → getD (map f xs) k e ≡ f (getD xs k d)
+mapped-at f [] k d e h = absurd (omega arith)
+mapped-at f (x ∷ xs) zero d e h = refl
+mapped-at f (x ∷ xs) (suc k) d e h = mapped-at f xs k d e (omega arith)
 
 -- so many zeros, and some visits
 pub blank-length : (n : ℕ) → length (blank n) ≡ n
@@ -202,7 +202,7 @@ module _ (yard times : List ℕ) (v : Visit) (output : ℕ) (s : Starts yard tim
 
   before-at : (k : ℕ) (b : Block) → BlockOf (callAt yard times (getD visits k v)) b → k < late → getD (map (blockDue yard times) before) k [] ≡ blockBytes b
   before-at k b is h =
-      mapped-at (blockDue yard times) before k v (rw (length-take-le late visits (omega (arith, last-there))) h)
+      mapped-at (blockDue yard times) before k v [] (rw (length-take-le late visits (omega (arith, last-there))) h)
       ∙ ap (blockDue yard times) (getD-take late visits k v h)
       ∙ sym (due-at k b is)
 
@@ -222,7 +222,7 @@ module _ (yard times : List ℕ) (v : Visit) (output : ℕ) (s : Starts yard tim
         block =
             λ k b is room h.
             let there : k < length visits = rw (f .with-room room, length-map visits (blockDue yard times)) at h in
-            rw (f .with-room room) (mapped-at (blockDue yard times) visits k v there ∙ sym (due-at k b is));
+            rw (f .with-room room) (mapped-at (blockDue yard times) visits k v [] there ∙ sym (due-at k b is));
         block-kept =
             λ k b is full h.
             let there : suc k < late = rw (f .without-room full, long) at h in

@@ -3,11 +3,9 @@ use Prim.Native.Nat.{ℕ, suc, _+_, _-_, _%_, _<_}
 use mathlib.Core.Bool.{cond}
 use lib.Dec.{ltb}
 use lib.IntN.{ℤ, pos, negsuc}
+use Rattle.clock.specs.Clock.{arrivalTimes}
 
--- there are 2^32 arrival times, and half as many differences to either side
-abbrev pub arrivalTimes : ℕ
-arrivalTimes = 4294967296
-
+-- half of the arrival times: as many differences to either side
 abbrev pub halfTimes : ℕ
 halfTimes = 2147483648
 

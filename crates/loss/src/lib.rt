@@ -1,7 +1,7 @@
 // Two Replies over one path: what each link sent, received and lost between them, and the time between two arrivals.
 use reply::Standard;
 ghost use mathlib.Core.Path.{_≡_};
-ghost use Prim.Native.Nat.{_+_, _≤_, _<_};
+ghost use Prim.Native.Nat.{_+_, _≤_};
 ghost use lib.ListN.{length};
 ghost use Rattle.rows.specs.Rows.{firstOf};
 ghost use Rattle.wire.specs.Parts.{splice};
