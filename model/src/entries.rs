@@ -124,6 +124,8 @@ mod tests {
         assert_eq!(clock_start(LIMIT + 1, &mut out), 31);
         assert_eq!(clock_advance(2, 1, LIMIT + 1, &mut out), 33);
         assert_eq!(clock_advance(1, 2, LIMIT + 1, &mut out), 31);
+        assert_eq!(clock_advance(1, LIMIT, 2, &mut out[..23]), 1);
+        assert_eq!(clock_advance(1, LIMIT, 2, &mut out), 31);
         assert_eq!(out, [0xee; 30]);
     }
 

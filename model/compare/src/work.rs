@@ -380,6 +380,7 @@ fn clocks() -> Vec<Work> {
     vec![
         Work::new("clock: start", Call::ClockStart(now), 0),
         Work::new("clock: advance", Call::ClockAdvance(now, now + 9, now + second), 0),
+        Work::new("clock: advance, the reading stood", Call::ClockAdvance(now, now + 9, now), 0),
         Work::new("clock: UNIX time", Call::ClockUnix(0, 999_999_999), (2_208_988_800 << 16) + 65_535),
         Work::new("clock: arrival", Call::ClockArrival((7 << 32) + 5), 5),
     ]

@@ -17,15 +17,30 @@ pub fn start(reading: u64, out: &mut [u8]) -> u32 {
 
 pub fn advance(r: u64, y: u64, reading: u64, out: &mut [u8]) -> u32 {
     let Some(out) = out.first_chunk_mut() else { return ROOM };
-    if y < r || y > LAST {
-        return STATE;
+    // where this wraps to 0 it is not above r; else it tells of y below r, over LAST and at LAST
+    let above = y.wrapping_add(1);
+    if above <= r || (above | reading) > LAST {
+        return refused(r, y);
     }
-    if reading > LAST {
-        return READING;
+    // a rise of more than twice the lead: more than half of it goes above y
+    if reading + r > 2 * y {
+        return hand_over(reading, reading, out);
     }
-    // a reading that fell leaves y, which is not below it: half of 0 is added
-    let issued = reading.max(y + reading.saturating_sub(r) / 2).min(LAST);
+    let issued = match reading.checked_sub(r + 2) {
+        None => above,
+        // 1 of the half is in y + 1
+        Some(more) => (above + more / 2).min(LAST),
+    };
     hand_over(reading, issued, out)
+}
+
+#[cold]
+fn refused(r: u64, y: u64) -> u32 {
+    if y < r || y > LAST {
+        STATE
+    } else {
+        READING
+    }
 }
 
 #[inline(always)]
@@ -61,7 +76,7 @@ mod tests {
     #[test]
     fn p6_a_lead_is_worked_off_at_half_rate() {
         let (mut r, mut y) = (1000, 1000);
-        for (reading, time) in [(1010, 1010), (1000, 1010), (1004, 1012), (1016, 1018), (1024, 1024)] {
+        for (reading, time) in [(1010, 1010), (1000, 1011), (1004, 1013), (1016, 1019), (1024, 1024)] {
             assert_eq!(issued(r, y, reading), (0, time));
             (r, y) = (reading, time);
         }
@@ -71,7 +86,34 @@ mod tests {
     fn refusals_in_order() {
         assert_eq!(advance(2, 1, LAST + 1, &mut [0; 23]), 1);
         assert_eq!([issued(2, 1, LAST + 1).0, issued(0, LAST + 1, 0).0, issued(1, 2, LAST + 1).0], [33, 33, 31]);
+        assert_eq!([issued(0, u64::MAX, 0).0, issued(u64::MAX, u64::MAX, 0).0, issued(LAST + 1, LAST, 0).0], [33; 3]);
+        assert_eq!([0, 1, 2, LAST, LAST + 1].map(|reading| issued(1, LAST, reading)), [(31, 0); 5]);
         assert_eq!(start(LAST + 1, &mut [0; 24]), 31);
+    }
+
+    /// The rule as it is said, by numbers that have room for all.
+    fn said(r: u64, y: u64, reading: u64) -> (u32, u64) {
+        if y < r || y > LAST {
+            return (33, 0);
+        }
+        if reading > LAST || y == LAST {
+            return (31, 0);
+        }
+        let half = reading.checked_sub(r).map_or(0, |passed| passed / 2);
+        (0, reading.max(y + half).max(y + 1).min(LAST))
+    }
+
+    #[test]
+    fn small_numbers_and_edges() {
+        let near = |edge: u64| edge - 12..=edge + 3;
+        let numbers: Vec<u64> = near(12).chain(near(LAST)).chain([LAST / 2, 1 << 63, u64::MAX - 1, u64::MAX]).collect();
+        for r in &numbers {
+            for y in &numbers {
+                for reading in &numbers {
+                    assert_eq!(issued(*r, *y, *reading), said(*r, *y, *reading), "{r} {y} {reading}");
+                }
+            }
+        }
     }
 
     #[test]

@@ -18,6 +18,8 @@ pub fn tape() -> Tape {
     cases.worked_examples();
     cases.edges();
     cases.falls_stands_rises();
+    cases.at_the_end();
+    cases.until_the_end();
     cases.chains(&mut Rng::new(1));
     cases.random(&mut Rng::new(2));
     cases.tape
@@ -83,7 +85,7 @@ impl Cases {
 
     /// Every combination of numbers at the edges.
     fn edges(&mut self) {
-        let edges = [0, 1, 2, LIMIT / 2, LIMIT - 1, LIMIT, LIMIT + 1, LIMIT + 2, 1 << 63, u64::MAX - 1, u64::MAX];
+        let edges = [0, 1, 2, LIMIT / 2, LIMIT - 2, LIMIT - 1, LIMIT, LIMIT + 1, 1 << 63, u64::MAX - 1, u64::MAX];
         for t in edges {
             self.start(t);
             self.arrival(t);
@@ -123,8 +125,35 @@ impl Cases {
             for step in 0..16 {
                 self.advance(1000, 1000 + lead, 997 + step);
             }
-            for step in 0..4 {
-                self.advance(LIMIT - lead, LIMIT, LIMIT - step);
+        }
+    }
+
+    /// The last three times as y, with leads of 0 to 9. A rise of 2 or 3 is over the limit where the lead is small, and
+    /// half of a rise to the limit passes it where the lead is large.
+    fn at_the_end(&mut self) {
+        for lead in 0..10 {
+            for y in LIMIT - 2..=LIMIT {
+                let r = y - lead;
+                for reading in [r - 1, r, r + 1, r + 2, r + 3, LIMIT, LIMIT + 1] {
+                    self.advance(r, y, reading);
+                }
+            }
+        }
+    }
+
+    /// Clocks near the last time, until they have issued it and after.
+    fn until_the_end(&mut self) {
+        for left in 0..6 {
+            for rise in -2..=3 {
+                let mut reading = LIMIT - left;
+                self.start(reading);
+                while self.held.issued < LIMIT {
+                    reading = reading.saturating_add_signed(rise).min(LIMIT);
+                    self.again(reading);
+                }
+                for refused in [reading, 0, LIMIT, LIMIT + 1] {
+                    self.again(refused);
+                }
             }
         }
     }
@@ -155,10 +184,11 @@ impl Cases {
     }
 
     fn random(&mut self, rng: &mut Rng) {
-        for _ in 0..600 {
+        for _ in 0..200 {
             let r = rng.below(LIMIT + 1);
             let y = r + rng.below(LIMIT + 1 - r);
             self.advance(r, y, rng.below(LIMIT + 1));
+            self.advance(r, y, r.saturating_sub(2) + rng.below(6));
         }
         for _ in 0..200 {
             let mut any = || rng.draw() >> rng.below(64);

@@ -292,12 +292,33 @@ impl Cases {
         }
     }
 
-    /// P6, and clocks at the edges.
+    /// P6, and clocks at the edges: r, y and the reading, and the time issued.
     fn advances(&mut self) {
-        let p6 = [[1000, 1000, 1010], [1010, 1010, 1000], [1000, 1010, 1004], [1004, 1012, 1016], [1016, 1018, 1024]];
-        let others = [[0, LIMIT, LIMIT], [5, 9, 5], [5, 9, 0], [7, 7, LIMIT], [LIMIT, LIMIT, LIMIT], [0, 0, 0]];
-        for (numbers, out) in p6.into_iter().chain(others).zip([24, 25, 40].into_iter().cycle()) {
+        let p6 = [
+            ([1000, 1000, 1010], 1010),
+            ([1010, 1010, 1000], 1011),
+            ([1000, 1011, 1004], 1013),
+            ([1004, 1013, 1016], 1019),
+            ([1016, 1019, 1024], 1024),
+        ];
+        let others = [
+            ([0, 0, 0], 1),
+            ([5, 9, 5], 10),
+            ([5, 9, 6], 10),
+            ([5, 9, 7], 10),
+            ([5, 9, 9], 11),
+            ([5, 9, 0], 10),
+            ([7, 7, LIMIT], LIMIT),
+            ([LIMIT - 2, LIMIT - 2, LIMIT - 2], LIMIT - 1),
+            ([3, LIMIT - 2, 7], LIMIT),
+            ([0, LIMIT - 2, LIMIT], LIMIT),
+            ([LIMIT - 1, LIMIT - 1, 0], LIMIT),
+            ([LIMIT - 1, LIMIT - 1, LIMIT - 1], LIMIT),
+            ([LIMIT - 1, LIMIT - 1, LIMIT], LIMIT),
+        ];
+        for ((numbers, time), out) in p6.into_iter().chain(others).zip([24, 25, 40].into_iter().cycle()) {
             assert_eq!(self.advance(numbers, out).0, 0);
+            assert_eq!([8, 16].map(|at| be64(&self.lent.handed.bytes, at)), [time; 2]);
         }
     }
 
@@ -308,8 +329,14 @@ impl Cases {
             (33, [1000, LIMIT + 1, 1020]),
             (33, [u64::MAX, u64::MAX, 1020]),
             (33, [1010, 1000, LIMIT + 1]),
+            (33, [LIMIT + 1, LIMIT, 1020]),
             (31, [1000, 1010, LIMIT + 1]),
             (31, [1000, 1010, u64::MAX]),
+            (31, [1000, LIMIT, 0]),
+            (31, [1000, LIMIT, 1000]),
+            (31, [0, LIMIT, LIMIT]),
+            (31, [LIMIT, LIMIT, LIMIT]),
+            (31, [LIMIT, LIMIT, LIMIT + 1]),
         ];
         for (number, numbers) in refused {
             assert_eq!(self.advance(numbers, 24).0, number);

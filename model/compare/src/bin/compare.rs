@@ -69,7 +69,7 @@ fn compared<Lends: Clone + PartialEq>(
 /// Numbers at and round the edges of the clock's range, and others.
 fn time(rng: &mut Rng) -> u64 {
     match rng.below(5) {
-        0 => rng.pick(&[0, 1, LIMIT - 1, LIMIT, LIMIT + 1, u64::MAX]),
+        0 => rng.pick(&[0, 1, LIMIT - 2, LIMIT - 1, LIMIT, LIMIT + 1, u64::MAX]),
         1 => rng.below(3000),
         2 => LIMIT - rng.below(3000),
         3 => rng.below(LIMIT + 1),
@@ -77,9 +77,24 @@ fn time(rng: &mut Rng) -> u64 {
     }
 }
 
+/// A clock's r and y, and a reading. Half of the leads are small, and half of the readings fell, stood or rose by a little.
+fn clock_numbers(rng: &mut Rng) -> [u64; 3] {
+    let (a, b) = (time(rng), time(rng));
+    let (r, y) = match rng.below(4) {
+        0 => (a, b),
+        1 => (a.min(b), a.max(b)),
+        2 => (a.saturating_sub(rng.below(12)), a),
+        _ => {
+            let y = LIMIT - rng.below(4);
+            (y - rng.below(12), y)
+        }
+    };
+    let reading = if rng.one_in(2) { time(rng) } else { r.saturating_add(rng.below(7)).saturating_sub(3) };
+    [r, y, reading]
+}
+
 fn clock_case(rng: &mut Rng, guard: Guard, met: &mut Met) {
-    let (r, y, reading) = (time(rng), time(rng), time(rng));
-    let (r, y) = if rng.one_in(2) { (r.min(y), r.max(y)) } else { (r, y) };
+    let [r, y, reading] = clock_numbers(rng);
     let length = if rng.one_in(8) { rng.below(50) as usize } else { 24 };
     let start = rng.one_in(4);
     let call = |side: &Side, out: &mut Lent| match start {
@@ -245,6 +260,8 @@ fn write_seeds(cases: u64, rng: &mut Rng, folder: &Path) -> io::Result<()> {
             folder.join(format!("walk{number}")),
             seed(1, &numbers, &lengths, &[&walk.message, &times, &walk.yard]),
         )?;
+        let numbers: Vec<u8> = clock_numbers(rng).into_iter().flat_map(u64::to_be_bytes).collect();
+        fs::write(folder.join(format!("clock{number}")), seed(2, &[], &[], &[&[24], &numbers]))?;
         let Replies { first, second, place, block, links, later, earlier } = replies::random(rng);
         if first.len() <= 2000 {
             let lengths = [block, links, first.len()];
