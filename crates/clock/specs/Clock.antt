@@ -2,7 +2,7 @@
 use Prim.Native.Nat.{ℕ, _+_, _-_, _/_, _%_, min, max}
 use mathlib.Core.Bool.{Bool, cond, _||_}
 use mathlib.Core.List.{List, [], _∷_}
-use lib.Dec.{ltb}
+use lib.Dec.{ltb, eqb}
 use Rattle.rows.specs.Rows.{Row, row, byFirst}
 use Rattle.clock.specs.declared.Clock.{Clock}
 use Rattle.clock.specs.declared.Tick.{Tick}
@@ -15,7 +15,7 @@ lastTime = 281474976710655
 abbrev pub outOfRange : ℕ → Bool
 outOfRange t = ltb lastTime t
 
--- refused for the reading
+-- refused for the reading, or since no time is left to issue
 abbrev pub clockReading : ℕ
 clockReading = 31
 
@@ -35,19 +35,27 @@ issued r y = record { number = 0; clock = clockOf r y; time = y }
 abbrev pub refusedTick : ℕ → Clock → Tick
 refusedTick n c = record { number = n; clock = c; time = 0 }
 
--- a reading below the last one: y stays. Else, d = t - r: the larger of t and y + floor(d/2), but at most 2^48 - 1
+-- a time above the last one. A reading below the last: y + 1. Else, d = t - r: the largest of t, y + floor(d/2) and y + 1, but at
+-- most 2^48 - 1
 unfoldable pub timeFor : Clock → ℕ → ℕ
-timeFor c t = cond (ltb t (c .r)) (c .y) (min lastTime (max t (c .y + (t - c .r) / 2)))
+timeFor c t =
+    let half = c .y + (t - c .r) / 2 in
+    let next = c .y + 1 in
+    cond (ltb t (c .r)) next (min lastTime (max t (max half next)))
 
 -- what a start refuses: a reading over 2^48 - 1
 abbrev pub startRows : ℕ → List Row
 startRows t = row clockReading (outOfRange t) ∷ []
 
--- what an advance refuses, in this order: y below r, or y over 2^48 - 1; a reading over 2^48 - 1
+-- a clock that has issued the last time: none is above it
+abbrev pub spent : Clock → Bool
+spent c = eqb (c .y) lastTime
+
+-- what an advance refuses, in this order: y below r, or y over 2^48 - 1; a reading over 2^48 - 1, or y 2^48 - 1
 abbrev pub advanceRows : Clock → ℕ → List Row
 advanceRows c t =
     row clockState (ltb (c .y) (c .r) || outOfRange (c .y))
-    ∷ row clockReading (outOfRange t)
+    ∷ row clockReading (outOfRange t || spent c)
     ∷ []
 
 -- a clock starts from a reading t, and issues t; where that is refused it is the clock of reading 0

@@ -1,6 +1,6 @@
-// A clock that follows its host forwards, never goes back, and works off a lead at half rate.
+// A clock that follows its host forwards, never issues a time twice or goes back, and works off a lead at half rate.
 ghost use mathlib.Core.Path.{_≡_};
-ghost use Prim.Native.Nat.{_≤_, min, max};
+ghost use Prim.Native.Nat.{_≤_, _<_, min};
 ghost use Rattle.clock.specs.Clock.{lastTime, timeFor, startOf, advanceOf, arrivalOf};
 ghost use Rattle.clock.specs.Unix.{unixOf};
 
@@ -51,12 +51,6 @@ fn smaller(a: u64, b: u64) -> u64
     if a < b { a } else { b }
 }
 
-fn larger(a: u64, b: u64) -> u64
-    ensures { λ r. ⌜ r ≡ max a b ⌝ }
-{
-    if a < b { b } else { a }
-}
-
 impl Clock {
     // A clock that starts from a reading, and issues it.
     pub fn start(reading: u64) -> Tick
@@ -92,7 +86,7 @@ impl Clock {
                 time: 0,
             };
         }
-        if LAST_TIME < t {
+        if LAST_TIME < t || y == LAST_TIME {
             return Tick {
                 number: CLOCK_READING,
                 clock: self,
@@ -109,15 +103,22 @@ impl Clock {
 
     // The time issued for a reading that is accepted.
     fn time_for(self, t: u64) -> u64
-        requires { ⌜ (self .y ≤ lastTime) × (t ≤ lastTime) ⌝ }
+        requires { ⌜ (self .r ≤ self .y) × (self .y < lastTime) × (t ≤ lastTime) ⌝ }
         ensures { λ y. ⌜ y ≡ timeFor self t ⌝ }
     {
         let r = self.r;
         let y = self.y;
-        if t < r {
-            return y;
+        // A rise of more than twice the lead: y and half of it do not come up to the reading.
+        if 2 * y < r + t {
+            return t;
         }
-        smaller(LAST_TIME, larger(t, y + (t - r) / 2))
+        let next = y + 1;
+        // From a rise of 2 on half of it counts; 1 of that half is in y + 1.
+        let far = r + 2;
+        if t < far {
+            return next;
+        }
+        smaller(LAST_TIME, next + (t - far) / 2)
     }
 }
 

@@ -3,16 +3,22 @@ use Prim.Native.Nat.{ℕ, _≤_, _<_}
 use mathlib.Core.Bool.{or-true}
 use mathlib.Core.Logic.{_⊎_, inl, inr, ⊎-elim}
 use mathlib.Core.Path.{_≡_, refl, sym, _∙_}
-use borrow.Author.Tests.{ltb-true, ltb-false, le-ltb, lt-ltb, le-leb, lt-leb}
+use native.Mathlib.Omega.{arith}
+use borrow.Author.Tests.{ltb-true, ltb-false, le-ltb, lt-ltb, le-leb, lt-leb, ne-eqb}
 use lib.Dec.{ltb}
 use Rattle.rows.specs.Rows.{byFirst}
 use Rattle.rows.proofs.Laws.{decided}
 use Rattle.clock.specs.declared.Clock.{Clock}
 use Rattle.clock.specs.declared.Units.{Units}
-use Rattle.clock.specs.Clock.{lastTime, timeFor, startOf, advanceOf, arrivalOf}
+use Rattle.clock.specs.Clock.{lastTime, clockOf, issued, timeFor, startOf, advanceOf, arrivalOf}
 use Rattle.clock.specs.Unix.{lastSecond, secondNanos, clockUnix, refusedUnits, unixOf}
-use Rattle.clock.proofs.Laws.{always-sound, issues-never-fall, lead-shrinks}
+use Rattle.clock.proofs.Laws.{always-sound, issues-rise, never-twice, lead-grows, lead-shrinks}
 use Rattle.demands.specs.Clock.{Start, Advance, DemandClock, DemandUnix}
+
+-- no row refuses
+takes : (r y t : ℕ) → r ≤ y → y < lastTime → t ≤ lastTime → advanceOf (clockOf r y) t ≡ issued t (timeFor (clockOf r y) t)
+unfolding advanceOf byFirst
+takes r y t s w h = rw (le-ltb y r s, le-ltb lastTime y (omega (arith, w)), le-ltb lastTime t h, ne-eqb y lastTime (λ e. omega (arith, w)))
 
 pub clock-meets : DemandClock startOf advanceOf
 unfolding startOf advanceOf timeFor byFirst
@@ -20,13 +26,16 @@ clock-meets =
     record {
       starts = λ t h. rw (le-ltb lastTime t h);
       starts-not = λ t h. rw (lt-ltb lastTime t h);
-      back = λ r y t s w h b. rw (le-ltb y r s, le-ltb lastTime y w, le-ltb lastTime t h, lt-ltb t r b);
-      forth = λ r y t s w h b. rw (le-ltb y r s, le-ltb lastTime y w, le-ltb lastTime t h, le-ltb t r b);
+      back = λ r y t s w h b. rw (takes r y t s w h, lt-ltb t r b);
+      forth = λ r y t s w h b. rw (takes r y t s w h, le-ltb t r b);
       below = λ r y t h. rw (lt-ltb y r h);
       above = λ r y t s h. rw (le-ltb y r s, lt-ltb lastTime y h);
       far = λ r y t s w h. rw (le-ltb y r s, le-ltb lastTime y w, lt-ltb lastTime t h);
+      spent = λ r y t s e. rw (le-ltb y r s, e, or-true (ltb lastTime t));
       sound = always-sound;
-      never-fall = issues-never-fall;
+      rises = issues-rise;
+      never-twice = never-twice;
+      grows = lead-grows;
       half-rate = λ c ts. lead-shrinks ts c;
     }
 
@@ -47,9 +56,10 @@ module _ (start start′ : Start) (advance advance′ : Advance) (d : DemandCloc
       ⊎-elim (λ h. d .below r y t h ∙ sym (e .below r y t h))
       (λ s. ⊎-elim (λ h. d .above r y t s h ∙ sym (e .above r y t s h))
       (λ w. ⊎-elim (λ h. d .far r y t s w h ∙ sym (e .far r y t s w h))
-      (λ l. ⊎-elim (λ h. d .back r y t s w l h ∙ sym (e .back r y t s w l h))
-      (λ h. d .forth r y t s w l h ∙ sym (e .forth r y t s w l h))
-      (split t r))
+      (λ l. ⊎-elim
+      (λ b. ⊎-elim (λ h. d .back r y t s b l h ∙ sym (e .back r y t s b l h)) (λ h. d .forth r y t s b l h ∙ sym (e .forth r y t s b l h)) (split t r))
+      (λ h. let last : y ≡ lastTime = omega arith in d .spent r y t s last ∙ sym (e .spent r y t s last))
+      (split y lastTime))
       (split lastTime t))
       (split lastTime y))
       (split y r)

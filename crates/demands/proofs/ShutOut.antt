@@ -1,6 +1,6 @@
 -- Wrong programs that the demands shut out. Each is refuted by what it would do with an input or two, which the checker computes:
--- P1's Query and its like at router 0, the walks of P1, P2 and P4, a clock 10 units ahead.
-use Prim.Native.Nat.{ℕ, suc, _+_, _-_, _≤_, _<_, max}
+-- P1's Query and its like at router 0, the walks of P1, P2 and P4, clocks 10 and 2 units ahead and one at its end.
+use Prim.Native.Nat.{ℕ, suc, _+_, _-_, _/_, _≤_, _<_, max}
 use mathlib.Core.List.{List, []}
 use mathlib.Core.Path.{_≡_, refl, sym, ap, _∙_}
 use native.Mathlib.Omega.{arith}
@@ -12,8 +12,8 @@ use Rattle.wire.specs.Numbers.{byteAt, be32}
 use Rattle.wire.specs.Parts.{splice}
 use Rattle.clock.specs.declared.Clock.{Clock}
 use Rattle.clock.specs.declared.Tick.{Tick}
-use Rattle.clock.specs.Clock.{lastTime, clockOf}
-use Rattle.clock.specs.Readings.{Sound}
+use Rattle.clock.specs.Clock.{lastTime, clockOf, issued}
+use Rattle.clock.specs.Readings.{allIssuesBy, times, Sound, lead}
 use Rattle.message.specs.Format.{most, codeOffset}
 use Rattle.message.specs.Blocks.{standardBlocks}
 use Rattle.message.specs.Room.{HasRoom}
@@ -203,30 +203,75 @@ module _ (engine : Engine) (walk : Walker) (meets : EngineMeets engine) (walks :
   refuses-a-second-visit wrong =
       omega (arith, wrong (twoRouters loop) twoTimes (startWith (paperQuery 10)) (blank most), steps-of loop 10, steps, two)
 
--- a clock that read 0 and issued 10: the reading 10 issues 15, and the reading 4 after one of 8 what was issued before
+-- what a clock does that meets its demand, in some calls, and the clocks that do otherwise
 module _ (start : Start) (advance : Advance) (d : DemandClock start advance) where
-  ahead : advance (clockOf 0 10) 10 .time ≡ 15
-  ahead = ap (λ (k : Tick). k .time) (d .forth 0 10 10 (lit≤ tt) (lit≤ tt) (lit≤ tt) (lit≤ tt))
+  abbrev Accepts : Clock → ℕ → Type 0
+  Accepts c t = advance c t .number ≡ 0
 
-  ahead-clock : advance (clockOf 0 10) 10 .clock .y ≡ 15
-  ahead-clock = ap (λ (k : Tick). k .clock .y) (d .forth 0 10 10 (lit≤ tt) (lit≤ tt) (lit≤ tt) (lit≤ tt))
+  abbrev Issues : Clock → ℕ → ℕ → Type 0
+  Issues c t n = Accepts c t × (advance c t .time ≡ n) × (advance c t .clock ≡ clockOf t n)
 
-  back : advance (clockOf 8 10) 4 .time ≡ 10
-  back = ap (λ (k : Tick). k .time) (d .back 8 10 4 (lit≤ tt) (lit≤ tt) (lit≤ tt) (lit≤ tt))
+  issues-it : (c : Clock) (t n : ℕ) → advance c t ≡ issued t n → Issues c t n
+  issues-it c t n e = (ap (λ (k : Tick). k .number) e, ap (λ (k : Tick). k .time) e, ap (λ (k : Tick). k .clock) e)
 
-  -- a clock that freezes until its host has caught up
-  pub freezes : ((c : Clock) (t : ℕ) → Sound c → t ≤ lastTime → advance c t .time ≡ max t (c .y)) → ⊥
-  freezes wrong = omega (arith, wrong (clockOf 0 10) 10 (record { leads = lit≤ tt; within = lit≤ tt }) (lit≤ tt), ahead)
+  -- 10 ahead, and the reading rises by 10 and by 11
+  even : Issues (clockOf 0 10) 10 15
+  even = issues-it _ _ _ (d .forth 0 10 10 (lit≤ tt) (lit≤ tt) (lit≤ tt) (lit≤ tt))
 
-  -- one that works off its lead at full rate: by as much as the reading rose
-  pub works-off-at-full-rate : ((c : Clock) (t : ℕ) → Sound c → c .r ≤ t → t ≤ lastTime → advance c t .clock .y - t ≡ c .y - c .r - (t - c .r)) → ⊥
-  works-off-at-full-rate wrong =
-      omega (arith, wrong (clockOf 0 10) 10 (record { leads = lit≤ tt; within = lit≤ tt }) (lit≤ tt) (lit≤ tt), ahead-clock)
+  odd : Issues (clockOf 0 10) 11 15
+  odd = issues-it _ _ _ (d .forth 0 10 11 (lit≤ tt) (lit≤ tt) (lit≤ tt) (lit≤ tt))
 
-  -- one that keeps its lead
-  pub keeps-its-lead : ((c : Clock) (t : ℕ) → Sound c → c .r ≤ t → t ≤ lastTime → advance c t .time ≡ c .y + (t - c .r)) → ⊥
-  keeps-its-lead wrong = omega (arith, wrong (clockOf 0 10) 10 (record { leads = lit≤ tt; within = lit≤ tt }) (lit≤ tt) (lit≤ tt), ahead)
+  -- 2 ahead, and it stands still and falls
+  stood : Issues (clockOf 8 10) 8 11
+  stood = issues-it _ _ _ (d .forth 8 10 8 (lit≤ tt) (lit≤ tt) (lit≤ tt) (lit≤ tt))
+
+  fell : Issues (clockOf 8 10) 4 11
+  fell = issues-it _ _ _ (d .back 8 10 4 (lit≤ tt) (lit≤ tt) (lit≤ tt) (lit≤ tt))
+
+  -- a clock that repeats a time: a single one, from whatever start and by whatever readings
+  pub repeats-a-time : (t : ℕ) (ts : List ℕ) (j k : ℕ) → let all = times (allIssuesBy start advance t ts) in
+      j < k → k < length all → getD all j 0 ≡ getD all k 0 → ⊥
+  repeats-a-time = d .never-twice
+
+  -- one that stands with its host
+  pub stands-still : ((c : Clock) → Accepts c (c .r) → advance c (c .r) .time ≡ c .y) → ⊥
+  stands-still wrong = omega (arith, wrong (clockOf 8 10) (stood .0), stood .1)
+
+  -- one that stays where its host falls back
+  pub stays-at-a-fall : ((c : Clock) (t : ℕ) → Accepts c t → t < c .r → advance c t .time ≡ c .y) → ⊥
+  stays-at-a-fall wrong = omega (arith, wrong (clockOf 8 10) 4 (fell .0) (lit≤ tt), fell .1)
 
   -- one that steps back with its host
-  pub steps-back : ((c : Clock) (t : ℕ) → Sound c → t < c .r → advance c t .time ≡ t) → ⊥
-  steps-back wrong = omega (arith, wrong (clockOf 8 10) 4 (record { leads = lit≤ tt; within = lit≤ tt }) (lit≤ tt), back)
+  pub steps-back : ((c : Clock) (t : ℕ) → Accepts c t → t < c .r → advance c t .time ≡ t) → ⊥
+  steps-back wrong = omega (arith, wrong (clockOf 8 10) 4 (fell .0) (lit≤ tt), fell .1)
+
+  -- one that freezes until its host has caught up
+  pub freezes : ((c : Clock) (t : ℕ) → Accepts c t → advance c t .time ≡ max t (c .y)) → ⊥
+  freezes wrong = omega (arith, wrong (clockOf 0 10) 10 (even .0), even .1)
+
+  -- one that goes on by the least there is until then
+  pub crawls : ((c : Clock) (t : ℕ) → Accepts c t → advance c t .time ≡ max t (c .y + 1)) → ⊥
+  crawls wrong = omega (arith, wrong (clockOf 0 10) 10 (even .0), even .1)
+
+  -- one that works off its lead at full rate: by as much as the reading rose
+  pub works-off-at-full-rate : ((c : Clock) (t : ℕ) → Accepts c t → c .r ≤ t → lead (advance c t .clock) ≡ lead c - (t - c .r)) → ⊥
+  works-off-at-full-rate wrong =
+      omega (arith, wrong (clockOf 0 10) 10 (even .0) (lit≤ tt), ap (λ (c : Clock). lead c) (even .2))
+
+  -- one that keeps its lead
+  pub keeps-its-lead : ((c : Clock) (t : ℕ) → Accepts c t → c .r ≤ t → advance c t .time ≡ c .y + (t - c .r)) → ⊥
+  keeps-its-lead wrong = omega (arith, wrong (clockOf 0 10) 10 (even .0) (lit≤ tt), even .1)
+
+  -- one that adds the step to the half
+  pub adds-to-the-half : ((c : Clock) (t : ℕ) → Accepts c t → c .r ≤ t → advance c t .time ≡ max t (c .y + (t - c .r) / 2 + 1)) → ⊥
+  adds-to-the-half wrong = omega (arith, wrong (clockOf 0 10) 10 (even .0) (lit≤ tt), even .1)
+
+  -- one that rounds the half up
+  pub rounds-up : ((c : Clock) (t : ℕ) → Accepts c t → c .r ≤ t → advance c t .time ≡ max t (max (c .y + (t - c .r + 1) / 2) (c .y + 1))) → ⊥
+  rounds-up wrong = omega (arith, wrong (clockOf 0 10) 11 (odd .0) (lit≤ tt), odd .1)
+
+  -- one that never comes to an end
+  pub never-ends : ((c : Clock) (t : ℕ) → Sound c → t ≤ lastTime → Accepts c t) → ⊥
+  never-ends wrong =
+      omega
+      (arith, wrong (clockOf 0 lastTime) 0 (record { leads = lit≤ tt; within = lit≤ tt }) (lit≤ tt), ap (λ (k : Tick). k .number) (d .spent 0 lastTime 0 (lit≤ tt) refl))

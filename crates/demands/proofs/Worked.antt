@@ -9,7 +9,7 @@ use lib.ListN.{length}
 use Rattle.wire.specs.Numbers.{byteAt}
 use Rattle.clock.specs.Clock.{startOf, arrivalOf}
 use Rattle.clock.specs.Unix.{unixOf}
-use Rattle.clock.specs.Readings.{Issue, issues}
+use Rattle.clock.specs.Readings.{issues, times}
 use Rattle.message.specs.Format.{codeOffset, most}
 use Rattle.message.specs.Blocks.{standards, standardCount}
 use Rattle.rows.specs.Rows.{NoneApplies}
@@ -60,8 +60,8 @@ examples =
     ∷ example 3 (summary full ++ (byteAt (full .last) 1423 ∷ [])) (101 ∷ 28 ∷ 27 ∷ 1424 ∷ 129 ∷ [])
     ∷ example 4 (summary (traced loop 1)) (101 ∷ 1 ∷ 1 ∷ 72 ∷ [])
     ∷ example 5 (summary (traced loop 0)) (8 ∷ 1 ∷ 0 ∷ 0 ∷ [])
-    ∷ example 6 (map (λ (i : Issue). i .time) (issues (startOf 1000 .clock) (1010 ∷ 1000 ∷ 1004 ∷ 1016 ∷ 1024 ∷ [])))
-    (1010 ∷ 1010 ∷ 1012 ∷ 1018 ∷ 1024 ∷ [])
+    ∷ example 6 (times (issues (startOf 1000 .clock) (1010 ∷ 1000 ∷ 1004 ∷ 1016 ∷ 1024 ∷ [])))
+    (1010 ∷ 1011 ∷ 1013 ∷ 1019 ∷ 1024 ∷ [])
     ∷ example 7 (arrivalOf (unixOf 0 0 .units) ∷ []) (2122317824 ∷ [])
     ∷ example 8 ((unixOf 0 999999999 .units - unixOf 0 0 .units) ∷ []) (65535 ∷ [])
     ∷ []
