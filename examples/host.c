@@ -4,7 +4,8 @@
  *
  * Reads the router's tables from the file SHEET, matches their interfaces to the kernel's by address, and
  * answers what comes in on PORT (33435). Counts each drop number, and prints the counts on SIGINT or
- * SIGTERM, or after PACKETS datagrams. SIGHUP reads SHEET anew.
+ * SIGTERM, or after PACKETS datagrams. SIGHUP reads SHEET anew. While the machine's time is out of range it
+ * answers nothing, and it ends when its clock has issued the last time there is.
  * Exit status: 0 ended as asked, 1 anything that it could not do, 2 bad arguments. */
 #define _GNU_SOURCE
 #include <arpa/inet.h>
@@ -43,13 +44,19 @@ struct router {
     size_t count;
 };
 
+/* The last reading of the machine's time, and the last time issued. */
+struct clock {
+    uint64_t r, y;
+};
+
 /* What the host keeps from one datagram to the next. */
 struct host {
     struct router router;
     uint8_t recent[BOUGH_RECENT_SIZE];
-    uint64_t r, y; /* the clock */
+    struct clock clock;
+    bool timeless; /* the last reading was refused */
     int socket;
-    uint64_t received, sent_on, replies, unsent;
+    uint64_t received, sent_on, replies, unsent, untimed;
     uint64_t dropped[BOUGH_DROP_LAST + 1];
 };
 
@@ -285,11 +292,17 @@ static bool send_out(const struct host *host, bool request, uint8_t *output, con
 static uint64_t reading(void)
 {
     struct timespec now;
-    clock_gettime(CLOCK_REALTIME, &now);
+    if (clock_gettime(CLOCK_REALTIME, &now) != 0)
+        return 0;
     return bough_clock_unix((uint64_t)now.tv_sec, (uint64_t)now.tv_nsec);
 }
 
-static bool start_clock(struct host *host)
+static struct clock handed_over(const uint8_t out[BOUGH_CLOCK_SIZE])
+{
+    return (struct clock){.r = get64(out), .y = get64(out + 8)};
+}
+
+static bool start_clock(struct clock *clock)
 {
     uint8_t out[BOUGH_CLOCK_SIZE];
     uint64_t now = reading();
@@ -297,35 +310,39 @@ static bool start_clock(struct host *host)
         fprintf(stderr, "host: the machine's time is out of range\n");
         return false;
     }
-    host->r = get64(out);
-    host->y = get64(out + 8);
+    *clock = handed_over(out);
     return true;
 }
 
-/* The arrival time of a datagram; a reading that is refused leaves the clock standing. */
-static uint32_t arrival_time(struct host *host)
+/* The clock for a datagram that came just now. false: there is no time for it, and the one before must not serve twice. */
+static bool next_clock(struct host *host, struct clock *next)
 {
     uint8_t out[BOUGH_CLOCK_SIZE];
     uint64_t now = reading();
-    if (now != 0 && bough_clock_advance(host->r, host->y, now, out, sizeof out) == BOUGH_CLOCK_OK) {
-        host->r = get64(out);
-        host->y = get64(out + 8);
+    if (now == 0 || bough_clock_advance(host->clock.r, host->clock.y, now, out, sizeof out) != BOUGH_CLOCK_OK) {
+        if (!host->timeless)
+            fprintf(stderr, "host: the machine's time is out of range: nothing is answered until it is set right\n");
+        host->timeless = true;
+        host->untimed++;
+        return false;
     }
-    return bough_clock_arrival(host->y);
+    host->timeless = false;
+    *next = handed_over(out);
+    return true;
 }
 
 /* ---- the loop ----------------------------------------------------------------------------------- */
 
-static void answer(struct host *host, const uint8_t *payload, const struct arrival *in)
+/* Whether anything was to be sent. */
+static bool answer(struct host *host, const uint8_t *payload, const struct arrival *in)
 {
     uint8_t output[BOUGH_ROOM], record[BOUGH_RECORD_SIZE];
     uint32_t number = bough_engine_step(payload, in->length, in->destination, in->interface, in->ttl, in->time,
                                         host->router.sheet, host->router.sheet_len, host->recent, sizeof host->recent,
                                         output, sizeof output, record, sizeof record);
-    host->received++;
     if (number != BOUGH_SENT_ON && number != BOUGH_REPLY) {
         host->dropped[number]++;
-        return;
+        return false;
     }
     if (number == BOUGH_SENT_ON)
         host->sent_on++;
@@ -336,6 +353,19 @@ static void answer(struct host *host, const uint8_t *payload, const struct arriv
         fprintf(stderr, "host: not sent to %s: %s\n", dotted(get32(record + BOUGH_RECORD_DESTINATION), text), strerror(errno));
         host->unsent++;
     }
+    return true;
+}
+
+/* A datagram that is dropped uses no time: the clock stays as it was, so that noise does not move it on. */
+static void take(struct host *host, const uint8_t *payload, struct arrival *in)
+{
+    struct clock next;
+    host->received++;
+    if (!next_clock(host, &next))
+        return;
+    in->time = bough_clock_arrival(next.y);
+    if (answer(host, payload, in))
+        host->clock = next;
 }
 
 static void print_counts(const struct host *host)
@@ -345,6 +375,8 @@ static void print_counts(const struct host *host)
     for (int number = 1; number <= BOUGH_DROP_LAST; number++)
         if (host->dropped[number] != 0)
             printf("dropped %d %s %llu\n", number, drop_names[number], (unsigned long long)host->dropped[number]);
+    if (host->untimed != 0)
+        printf("without a time %llu\n", (unsigned long long)host->untimed);
     fflush(stdout);
 }
 
@@ -378,6 +410,11 @@ static int run(struct host *host, const char *name, uint64_t packets)
     sigaction(SIGHUP, &action, NULL);
     while (!stop && (packets == 0 || host->received < packets)) {
         struct arrival in;
+        if (host->clock.y == BOUGH_CLOCK_LAST) {
+            fprintf(stderr, "host: the clock has issued the last time there is: set the machine's time right, and start the host again\n");
+            print_counts(host);
+            return 1;
+        }
         if (ppoll(&ready, 1, NULL, &free_set) < 0 && errno != EINTR) {
             perror("host: poll");
             return 1;
@@ -386,10 +423,8 @@ static int run(struct host *host, const char *name, uint64_t packets)
             reload = 0;
             read_anew(host, name);
         }
-        if (receive(host, payload, sizeof payload, &in)) {
-            in.time = arrival_time(host);
-            answer(host, payload, &in);
-        }
+        if (receive(host, payload, sizeof payload, &in))
+            take(host, payload, &in);
     }
     print_counts(host);
     return 0;
@@ -424,7 +459,7 @@ int main(int argc, char **argv)
     }
     if (optind + 1 != argc)
         return usage();
-    if (!read_sheet(argv[optind], &host.router) || !start_clock(&host) || (host.socket = open_socket((uint16_t)port)) < 0)
+    if (!read_sheet(argv[optind], &host.router) || !start_clock(&host.clock) || (host.socket = open_socket((uint16_t)port)) < 0)
         return 1;
     join_all_routers(host.socket, &host.router);
     for (size_t i = 0; i < host.router.count; i++) {

@@ -186,10 +186,10 @@ extern "C" {
 #define BOUGH_END_GROUP 102           /* a walk's end: sent to a group */
 #define BOUGH_END_NOBODY 103          /* a walk's end: no router of the yard holds the address */
 
-/* Refusals of the clock. */
+/* Answers of the clock. */
 #define BOUGH_CLOCK_OK 0
 #define BOUGH_CLOCK_ROOM 1            /* out under 24 bytes */
-#define BOUGH_CLOCK_READING 31        /* reading over 2^48 - 1 */
+#define BOUGH_CLOCK_READING 31        /* reading over 2^48 - 1; of an advance also: y is 2^48 - 1, and no time is left */
 #define BOUGH_CLOCK_STATE 33          /* y below r, or y over 2^48 - 1 */
 #define BOUGH_CLOCK_LAST 281474976710655u /* 2^48 - 1 */
 
@@ -222,21 +222,23 @@ extern "C" {
 
 /* ---- clock: units of 1/65536 s since 1900 (NTP era 0) ------------------------------------------ */
 
-/* A clock is two numbers that the host keeps: r, the last reading, and y, the last time issued. Times
- * issued never fall, though readings may: after the host's time was set back the clock stands still, and
- * then works its lead off at half rate. Reading: bough_clock_unix of CLOCK_REALTIME. Time of arrival for
- * a step: bough_clock_arrival of the y handed over. */
+/* A clock is two numbers that the host keeps: r, the last reading, and y, the last time issued. Where each call
+ * is given the r and y of the call before, each time issued is above the last, and none is issued twice,
+ * whatever the readings do: while they stand still or fall the clock goes on by one unit a call, and then works
+ * its lead off at half rate. Reading: bough_clock_unix of CLOCK_REALTIME. Time of arrival for a step:
+ * bough_clock_arrival of the y handed over. */
 
 /* Starts a clock at `reading`. 0: out[0..8) is r, out[8..16) y and out[16..24) the time issued, which
- * equals y. 1 and 31: refused, tried in that order. */
+ * equals y. 1 and 31: refused, tried in that order. A clock that starts at 2^48 - 1 issues it, and no other time. */
 uint32_t bough_clock_start(uint64_t reading, uint8_t *out, size_t out_len);
 
-/* Advances the clock (r, y) to `reading`. 0: `out` as above, r and y being those to keep. 1, 33 and 31:
- * refused, tried in that order; keep the old r and y. */
+/* Advances the clock (r, y) to `reading`. 0: `out` as above, r and y being those to keep once the time is used.
+ * 1, 33 and 31: refused, tried in that order; keep the old r and y. Where y is 2^48 - 1 every reading is 31. */
 uint32_t bough_clock_advance(uint64_t r, uint64_t y, uint64_t reading, uint8_t *out, size_t out_len);
 
 /* UNIX time to units. 0 means refused: seconds over 2085978495 (in 2036), or nanoseconds over 999999999.
- * Negative seconds, cast to uint64_t, are refused too. No time that is accepted gives 0. */
+ * Negative seconds, cast to uint64_t, are refused too. No time that is accepted gives 0. Do not hand the 0 on:
+ * as a reading it is a valid one. */
 uint64_t bough_clock_unix(uint64_t seconds, uint64_t nanoseconds);
 
 /* The Query Arrival Time of a time issued: y modulo 2^32. */

@@ -33,7 +33,7 @@ static int holds(const uint8_t *out, uint64_t r, uint64_t y)
 
 static void clock_entries(void)
 {
-    static const uint64_t readings[] = {1010, 1000, 1004, 1016, 1024}, issued[] = {1010, 1010, 1012, 1018, 1024};
+    static const uint64_t readings[] = {1010, 1000, 1004, 1016, 1024}, issued[] = {1010, 1011, 1013, 1019, 1024};
     uint8_t out[BOUGH_CLOCK_SIZE] = {0};
     uint64_t r = 1000, y = 1000;
     expect(bough_clock_start(r, out, sizeof out - 1) == BOUGH_CLOCK_ROOM, "23 bytes are too few");
@@ -47,6 +47,10 @@ static void clock_entries(void)
         y = issued[i];
     }
     expect(bough_clock_advance(2, 1, 3, out, sizeof out) == BOUGH_CLOCK_STATE && holds(out, r, y), "y below r is refused");
+    expect(bough_clock_advance(2, BOUGH_CLOCK_LAST, 3, out, sizeof out) == BOUGH_CLOCK_READING && holds(out, r, y),
+           "a clock that has issued the last time is refused");
+    expect(bough_clock_advance(2, BOUGH_CLOCK_LAST - 1, 1, out, sizeof out) == BOUGH_CLOCK_OK && holds(out, 1, BOUGH_CLOCK_LAST),
+           "the last time is issued");
     expect(bough_clock_unix(1, 500000000) == (UINT64_C(2208988801) << 16 | 0x8000), "a second and a half of UNIX time");
     expect(bough_clock_unix(0, 1000000000) == 0, "a whole second of nanoseconds is refused");
     expect(bough_clock_arrival(UINT64_C(2208988800) << 16) == 2122317824, "the arrival time of UNIX 0");

@@ -467,4 +467,54 @@ wait "${hosts[near]}" || fail "a host that counts packets ended with status $?"
 unset "hosts[near]"
 same "a host that ends after two packets" "received 2 sent on 1 replies 0 not sent 0
 dropped 5 SIZE 1" "$(counts near)"
+
+# ---- times beforehand in place of the machine's -------------------------------------------------------
+
+# shellcheck disable=SC2086
+$compile -Werror -Wl,--wrap=clock_gettime -Iinclude -o "$place/timed" examples/host.c tests/times.c target/staticlib/libservicebough.a
+# timed TIMES [OPTIONS]: the near router, whose time is so
+timed() {
+    local times=$1
+    shift
+    TIMES=$times listen near "$place/timed" "$@" "$place/near"
+}
+# arrivals: of what the client printed last, the near router's arrival times
+arrivals() {
+    sed -n '/^1 out/{n;s/^  arrival //p;}' "$place/asked"
+}
+# ended STATUS: the near router has ended with this status
+ended() {
+    local status=0
+    wait "${hosts[near]}" || status=$?
+    unset "hosts[near]"
+    [ "$status" = "$1" ] || fail "a host ended with status $status: $(cat "$place/near.err")"
+}
+timed '1000000000.000000000 1000000010.000000000 1000000000.000000000 1000000000.000000000 1000000001.000000000' -n 4
+trace -h 1 -n 4 -w 0 192.0.2.1 > "$place/said"
+ended 0
+same "a time that goes back, stands, and goes on" "18570.000000 s
+18570.000015 s
+18570.000031 s
+18570.500031 s
+status 3" "$(arrivals; tail -n 1 "$place/said")"
+
+timed '1000000000.000000000 4000000000.000000000 1000000000.000000000' -n 2
+trace -h 1 -n 2 -w 0 -t 1 192.0.2.1 > "$place/said"
+ended 0
+same "a time out of range, then the right one" "trace 1: no reply in 1 s
+1 out 192.0.2.1 in 198.51.100.1 up 198.51.100.2 code 0 NO_ERROR
+status 1
+18560.000015 s
+host: the machine's time is out of range: nothing is answered until it is set right
+received 2 sent on 0 replies 1 not sent 0
+without a time 1" "$(cat "$place/said"; arrivals; cat "$place/near.err"; counts near)"
+
+timed '2085978495.000000000 2085978495.999999999'
+trace -h 1 192.0.2.1 > "$place/said"
+ended 1
+same "the last time there is" "1 out 192.0.2.1 in 198.51.100.1 up 198.51.100.2 code 0 NO_ERROR
+status 3
+65535.999985 s
+host: the clock has issued the last time there is: set the machine's time right, and start the host again
+received 1 sent on 0 replies 1 not sent 0" "$(cat "$place/said"; arrivals; cat "$place/near.err"; counts near)"
 echo "network: ok"
