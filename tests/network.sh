@@ -498,6 +498,14 @@ same "a time that goes back, stands, and goes on" "18570.000000 s
 18570.500031 s
 status 3" "$(arrivals; tail -n 1 "$place/said")"
 
+timed '1000000000.000000000 1000000100.000000000 1000000000.000000000' -n 2
+bytes 'x'
+trace -h 1 192.0.2.1 > "$place/said"
+ended 0
+same "a datagram that is dropped moves no clock" "18560.000015 s
+received 2 sent on 0 replies 1 not sent 0
+dropped 5 SIZE 1" "$(arrivals; counts near)"
+
 timed '1000000000.000000000 4000000000.000000000 1000000000.000000000' -n 2
 trace -h 1 -n 2 -w 0 -t 1 192.0.2.1 > "$place/said"
 ended 0
