@@ -6,13 +6,13 @@ use mathlib.Core.Path.{_≡_, refl}
 use native.Mathlib.Omega.{arith}
 use lib.Dec.{leb, ltb, eqb}
 use lib.ListN.{length, getD}
-use borrow.Author.Tests.{ltb-false, leb-true, eqb-true, ne-eqb}
-use Rattle.rows.specs.Rows.{NoneApplies}
+use borrow.Author.Tests.{ltb-false, leb-true, eqb-true, le-ltb, ne-eqb}
+use Rattle.rows.specs.Rows.{byFirst, NoneApplies}
 use Rattle.rows.proofs.Laws.{by-rows, first-passes, neither-of}
 use Rattle.clock.specs.declared.Clock.{Clock}
 use Rattle.clock.specs.declared.Tick.{Tick}
 use Rattle.clock.specs.declared.Units.{Units}
-use Rattle.clock.specs.Clock.{outOfRange, spent, clockOf, issued, refusedTick, timeFor, startRows, advanceRows, startOf, advanceOf}
+use Rattle.clock.specs.Clock.{lastTime, outOfRange, spent, clockOf, issued, refusedTick, timeFor, startRows, advanceRows, startOf, advanceOf}
 use Rattle.clock.specs.Unix.{clockUnix, unitsFor, unixRows, converted, refusedUnits, unixOf}
 use Rattle.clock.specs.Readings.{afterBy, after, Issue, issueThen, issuesBy, issues, allIssues, times, Sound, RiseAbove, NeverTwice, lead, RoseByTwo, Shrunk}
 use Rattle.clock.proofs.Time.{Takes, not-last, by-rise}
@@ -40,6 +40,12 @@ passed-rows c t none =
     let state = neither-of (ltb (c .y) (c .r)) (outOfRange (c .y)) (none .0) in
     let reading = neither-of (outOfRange t) (spent c) (none .1 .0) in
     (ltb-false _ _ (state .0), not-last _ (state .1) (reading .1), ltb-false _ _ (reading .0))
+
+-- a clock that takes a reading issues its time: no row refuses
+pub accepts : (c : Clock) (t : ℕ) → Takes c t → advanceOf c t ≡ issued t (timeFor c t)
+unfolding advanceOf byFirst
+accepts c t s =
+    rw (le-ltb (c .y) (c .r) (s .0), le-ltb lastTime (c .y) (omega (arith, s .1)), le-ltb lastTime t (s .2), ne-eqb (c .y) lastTime (λ e. omega (arith, s .1)))
 
 -- every answer to a reading, by its ways: refused with the clock as it was, or issued by a clock that takes it
 by-answer : (P : Tick → Type 0) (c : Clock) (t : ℕ) → ((n : ℕ) → 0 < n → P (refusedTick n c)) → (Takes c t → P (issued t (timeFor c t))) → P (advanceOf c t)

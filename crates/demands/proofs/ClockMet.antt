@@ -4,21 +4,16 @@ use mathlib.Core.Bool.{or-true}
 use mathlib.Core.Logic.{_⊎_, inl, inr, ⊎-elim}
 use mathlib.Core.Path.{_≡_, refl, sym, _∙_}
 use native.Mathlib.Omega.{arith}
-use borrow.Author.Tests.{ltb-true, ltb-false, le-ltb, lt-ltb, le-leb, lt-leb, ne-eqb}
+use borrow.Author.Tests.{ltb-true, ltb-false, le-ltb, lt-ltb, le-leb, lt-leb}
 use lib.Dec.{ltb}
 use Rattle.rows.specs.Rows.{byFirst}
 use Rattle.rows.proofs.Laws.{decided}
 use Rattle.clock.specs.declared.Clock.{Clock}
 use Rattle.clock.specs.declared.Units.{Units}
-use Rattle.clock.specs.Clock.{lastTime, clockOf, issued, timeFor, startOf, advanceOf, arrivalOf}
+use Rattle.clock.specs.Clock.{lastTime, clockOf, timeFor, startOf, advanceOf, arrivalOf}
 use Rattle.clock.specs.Unix.{lastSecond, secondNanos, clockUnix, refusedUnits, unixOf}
-use Rattle.clock.proofs.Laws.{always-sound, issues-rise, never-twice, lead-grows, lead-shrinks}
+use Rattle.clock.proofs.Laws.{accepts, always-sound, issues-rise, never-twice, lead-grows, lead-shrinks}
 use Rattle.demands.specs.Clock.{Start, Advance, DemandClock, DemandUnix}
-
--- no row refuses
-takes : (r y t : ℕ) → r ≤ y → y < lastTime → t ≤ lastTime → advanceOf (clockOf r y) t ≡ issued t (timeFor (clockOf r y) t)
-unfolding advanceOf byFirst
-takes r y t s w h = rw (le-ltb y r s, le-ltb lastTime y (omega (arith, w)), le-ltb lastTime t h, ne-eqb y lastTime (λ e. omega (arith, w)))
 
 pub clock-meets : DemandClock startOf advanceOf
 unfolding startOf advanceOf timeFor byFirst
@@ -26,8 +21,8 @@ clock-meets =
     record {
       starts = λ t h. rw (le-ltb lastTime t h);
       starts-not = λ t h. rw (lt-ltb lastTime t h);
-      back = λ r y t s w h b. rw (takes r y t s w h, lt-ltb t r b);
-      forth = λ r y t s w h b. rw (takes r y t s w h, le-ltb t r b);
+      back = λ r y t s w h b. rw (accepts (clockOf r y) t (s, w, h), lt-ltb t r b);
+      forth = λ r y t s w h b. rw (accepts (clockOf r y) t (s, w, h), le-ltb t r b);
       below = λ r y t h. rw (lt-ltb y r h);
       above = λ r y t s h. rw (le-ltb y r s, lt-ltb lastTime y h);
       far = λ r y t s w h. rw (le-ltb y r s, le-ltb lastTime y w, lt-ltb lastTime t h);
