@@ -5,7 +5,8 @@
 
 use super::plans::{interface, random_route};
 use super::tape::{Area, Tape};
-use crate::build::{ip, RouteEntry, SheetPlan};
+use crate::build::{ip, InterfaceEntry, RouteEntry, SheetPlan};
+use crate::bytes::mask;
 use crate::rng::Rng;
 use crate::sheet::Sheet;
 
@@ -19,6 +20,7 @@ pub fn tape() -> Tape {
     let mut cases = Cases { tape: Tape::default(), sheet: Area::new(1, AREA), length: 0, name: "" };
     cases.each_kind();
     cases.nested();
+    cases.every_length();
     cases.ties();
     cases.last_hops();
     cases.overlapping(&mut Rng::new(21));
@@ -107,7 +109,7 @@ impl Cases {
     fn nested(&mut self) {
         let address = ip(203, 77, 113, 41);
         let order: Vec<u8> = (0..33).map(|i| (i * 20 % 33) as u8).collect();
-        let prefix = |length: u8| address & crate::bytes::mask(length);
+        let prefix = |length: u8| address & mask(length);
         let third = order.iter().map(|length| RouteEntry::source_only(prefix(*length), *length));
         let first = order.iter().filter(|length| **length > 0);
         let first = first.map(|length| RouteEntry::source_and_group(prefix(*length), *length, GROUP));
@@ -121,6 +123,25 @@ impl Cases {
         for group in [GROUP, OTHER, ALL_ONES] {
             self.ask(address, group, address);
             self.ask(ALL_ONES, group, address);
+        }
+    }
+
+    /// Every length, of a route and of the interface that it forwards to, for a source and a client that differ from both in
+    /// no bit, in each bit alone, and in each bit and all behind it. The second route serves where the first does not.
+    fn every_length(&mut self) {
+        let address = ip(203, 77, 113, 41);
+        let (alone, from_there) = ((0..32).map(|bit| 1 << bit), (0..31).map(|bit| u32::MAX >> bit));
+        let differences: Vec<u32> = alone.chain(from_there).chain([0]).collect();
+        for length in 0..=32 {
+            let routes = [length, 0].map(|length| RouteEntry::source_only(address & mask(length), length).by(0, 0, 1));
+            let mut base = plan(1, routes.into());
+            base.interfaces[0] = InterfaceEntry::new(address, length.max(1)); // none has length 0
+            self.use_sheet("lengths", &base);
+            for difference in &differences {
+                let other = address ^ difference;
+                let agree = difference.checked_shr(32 - u32::from(length)).unwrap_or(0) == 0;
+                assert_eq!(self.ask(other, ALL_ONES, other), Some(usize::from(!agree)));
+            }
         }
     }
 
@@ -195,7 +216,7 @@ impl Cases {
             let routes: Vec<RouteEntry> = (0..count)
                 .map(|_| {
                     let route = random_route(rng, 5);
-                    let source = rng.pick(&roots) & crate::bytes::mask(route.length);
+                    let source = rng.pick(&roots) & mask(route.length);
                     let group = if route.kind == 3 { 0 } else { rng.pick(&[GROUP, GROUP, OTHER]) };
                     RouteEntry { source, group, ..route }
                 })
