@@ -1,4 +1,4 @@
--- The mask of a prefix, and what it leaves of an address.
+-- Shifts and masks: the bits of an address past a length, and the bits of a map that no interface has.
 use Prim.Native.Nat.{ℕ, suc, _+_, _*_, _/_, _%_, _-_, _^_, _≤_, _<_}
 use mathlib.Core.Bool.{Bool, true, false}
 use mathlib.Core.List.{List}
@@ -14,7 +14,7 @@ use Rattle.wire.specs.Numbers.{be64, bytes, bytes64}
 use Rattle.wire.specs.Inside.{le, le64, octets}
 use Rattle.wire.proofs.Laws.{be-bytes, be-lt, octets-bytes, same-common}
 use Rattle.entry.specs.Interface.{mostInterfaces}
-use Rattle.entry.specs.Prefix.{addressBits, hosts, samePrefix, zeroPast}
+use Rattle.entry.specs.Prefix.{addressBits, hosts, zeroPast}
 use Rattle.entry.specs.Route.{mapOk}
 use Rattle.entry.specs.Inside.{outsideMap}
 
@@ -36,22 +36,6 @@ same-test a b c d f g = by-flag (eqb a b) refl where
   by-flag : (t : Bool) → eqb a b ≡ t → eqb a b ≡ eqb c d
   by-flag true e = e ∙ sym (eq-eqb c d (f (eqb-true a b e)))
   by-flag false e = e ∙ sym (ne-eqb c d (λ q. eqb-false a b e (g q)))
-
-hosts-is : (bits : ℕ) → hosts bits ≡ 2 ^ (addressBits - bits)
-unfolding hosts
-hosts-is bits = refl
-
-hosts-some : (bits : ℕ) → 0 < hosts bits
-hosts-some bits = rw hosts-is (pow-pos (addressBits - bits))
-
--- the two ways in which the mask is made
-pub mask-none : (bits : ℕ) → bits ≡ 0 → 0 ≡ 2 ^ addressBits - hosts bits
-unfolding hosts
-mask-none bits e = rw e
-
-pub mask-some : (bits : ℕ) → 4294967295 * 2 ^ (addressBits - bits) % 2 ^ addressBits ≡ 2 ^ addressBits - hosts bits
-unfolding hosts
-mask-some bits = ones-shifted addressBits (addressBits - bits) (omega arith)
 
 -- past all of an address there is no bit
 pub none-past : (bits a : ℕ) → addressBits < bits → true ≡ zeroPast bits a
@@ -105,25 +89,3 @@ map-outside n bits m s at h e f o =
     (same-common 3 s (bytes64 v) at 0 o (octets-bytes 3 v fits)
     ∙ ap (λ (x : ℕ). eqb (bitAnd (be64 s at) x) 0) (be-bytes 3 v fits)
     ∙ none-high n (be64 s at) h (be-lt 3 s at o))
-
-module _ (bits : ℕ) (short : bits ≤ addressBits) where
-  mask-eq : 2 ^ addressBits - hosts bits ≡ 2 ^ (bits + (addressBits - bits)) - 2 ^ (addressBits - bits)
-  unfolding hosts
-  mask-eq = let e : addressBits ≡ bits + (addressBits - bits) = omega arith in ap (λ (n : ℕ). 2 ^ n - 2 ^ (addressBits - bits)) e
-
-  bounded : (a : ℕ) → a < 2 ^ addressBits → a < 2 ^ (bits + (addressBits - bits))
-  bounded a h = let e : bits + (addressBits - bits) ≡ addressBits = omega arith in rw e h
-
-  -- what the mask leaves: whole prefixes
-  masked : (m a : ℕ) → m ≡ 2 ^ addressBits - hosts bits → a < 2 ^ addressBits → bitAnd a m ≡ a / hosts bits * hosts bits
-  masked m a e h =
-      rw (e, mask-eq, and-high a bits (addressBits - bits), shr-mod bits (addressBits - bits) (bounded a h), hosts-is bits)
-
-  pub same-masked : (m a b : ℕ) → m ≡ 2 ^ addressBits - hosts bits → a < 2 ^ addressBits → b < 2 ^ addressBits → eqb (bitAnd a m) (bitAnd b m) ≡ samePrefix bits a b
-  unfolding samePrefix
-  same-masked m a b e ha hb =
-      let H : ℕ = hosts bits in
-      rw (masked m a e ha, masked m b e hb)
-      (same-test (a / H * H) (b / H * H) (a / H) (b / H)
-      (eq-of-mul-eq-mul-right H (hosts-some bits) (a / H) (b / H))
-      (ap (λ (n : ℕ). n * H)))

@@ -1,11 +1,18 @@
--- `same_prefix`: what the mask leaves of two addresses is equal where their prefixes are.
-use Rattle.entry.proofs.Masks.{same-masked}
+-- `same_prefix`: the zeros that two addresses' difference begins with are bits in which they agree. There are at most 32, which a byte holds.
+use mir.Facts.{fits-below}
+use lib.Count.{leading-le}
+use Rattle.entry.specs.Prefix.{addressBits, hosts, samePrefix}
+use Rattle.entry.proofs.Prefixes.{leading-agree}
 use borrow.Author.Needs.{needs}
 use Rattle.entry.proofs.prefix.same_prefix.Statement.{statement}
 use Rattle.entry.proofs.prefix.same_prefix.Tie as tie
 
+cast-result : tie.Need-cast-result
+cast-result c = fits-below tt (leading-le addressBits _)
+
 returns : tie.Need-returns
-returns c = search (same-masked, needs)
+unfolding samePrefix hosts
+returns c = search (leading-agree, needs)
 
 pub same-prefix-spec : {M : Type 1} → statement M
-same-prefix-spec = tie.close (tie.spec (λ c κs. search needs) returns)
+same-prefix-spec = tie.close (tie.spec cast-result returns)
