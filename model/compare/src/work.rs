@@ -278,9 +278,14 @@ fn choosing(name: &str, routes: Vec<RouteEntry>) -> Work {
 
 fn choices() -> Vec<Work> {
     let ours = |n: usize| RouteEntry::source_and_group(SOURCE >> 8 << 8, 24 + (n / 45) as u8, GROUP);
+    let beside = |n: usize| RouteEntry::source_and_group(SOURCE >> 8 << 8 ^ 1 << 8, 24 + (n / 45) as u8, GROUP);
     let mut works: Vec<_> =
         [1, 9, 45, 135].map(|count| choosing(&format!("{count} routes of groups, ours last"), groups(count))).into();
-    works.push(choosing("135 routes of our source and group", (0..135).map(ours).collect()));
+    for count in [9, 135] {
+        let of = |route: &dyn Fn(usize) -> RouteEntry| (0..count).map(route).collect();
+        works.push(choosing(&format!("{count} routes of our source and group"), of(&ours)));
+        works.push(choosing(&format!("{count} routes of our group and another source"), of(&beside)));
+    }
     works
 }
 
