@@ -1,5 +1,5 @@
 -- Laws of accepted messages, those to which no row of 5 to 13 applies: what is known of one, what the check answers for it,
--- and that a Request has a type 4 block.
+-- and that a Query has room and a Request a type 4 block.
 use Prim.Native.Nat.{ℕ, zero, suc, _+_, _≤_, _<_}
 use mathlib.Core.Path.{_≡_, refl, sym, ap, _∙_}
 use mathlib.Core.Bool.{true, false}
@@ -18,6 +18,7 @@ use Rattle.message.specs.Header.{headerOf, queryOrRequest, rightLength, 
 use Rattle.message.specs.Blocks.{Placed, blocksOf, standardPlaces, standards, standardCount, fillsMessage, standardFirst, requestForm, rightForm}
 use Rattle.message.specs.Check.{dropSize, dropType, dropHeader, dropHops, dropGroup, dropSource, dropPair, dropClient, dropBlocks, headerRows, messageRows}
 use Rattle.message.specs.Inside.{refusedMessage, acceptedMessage, checkOf}
+use Rattle.message.specs.Room.{Full, leastRoom}
 use Rattle.rows.specs.Rows.{NoneApplies, firstOf}
 use Rattle.message.proofs.Turns.{standard-more}
 use Rattle.message.proofs.Append.{query-alone, request-formed}
@@ -115,6 +116,14 @@ module _ (s : List ℕ) (a : Accepted s) where
   unfolding headerOf
   accepted-request k = request-has-standard s (request-formed s (a .form) (λ q. omega arith))
 
-  -- so whatever leaves no room for a block has one: no accepted message meets row 19
-  pub full-has-standard : most < length s + standardSize → 0 < standardCount s
-  full-has-standard h = ⊎-elim (λ k. absurd (omega (arith, accepted-query k))) accepted-request accepted-kinds
+  -- in any room that a link leaves, and so in 1472 bytes: a Query always has room, so that whatever has none is a Request, and
+  -- there is a type 4 block for 0x81
+  module _ (room : ℕ) (link : leastRoom ≤ room) where
+    pub query-has-room : headerOf s .kind ≡ query → length s + standardSize ≤ room
+    query-has-room k = omega (arith, accepted-query k)
+
+    pub no-room-has-standard : room < length s + standardSize → 0 < standardCount s
+    no-room-has-standard h = ⊎-elim (λ k. absurd (omega (arith, query-has-room k))) accepted-request accepted-kinds
+
+  pub full-has-standard : Full s → 0 < standardCount s
+  full-has-standard = no-room-has-standard most (omega arith)

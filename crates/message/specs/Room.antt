@@ -20,6 +20,10 @@ Full m = most < length m + standardSize
 abbrev pub HasRoom : List ℕ → Type 0
 HasRoom m = length m + standardSize ≤ most
 
+-- the least that a link leaves for a message: of the smallest MTU, 576, all but the 28 bytes of the IP and UDP headers
+abbrev pub leastRoom : ℕ
+leastRoom = 548
+
 -- the hops that it has used, one for each type 4 block, and those that it has not
 abbrev pub hopsUsed : List ℕ → ℕ
 hopsUsed m = standardCount m

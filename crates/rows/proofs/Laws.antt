@@ -128,6 +128,14 @@ module _ {A : Type 0} (given : ℕ → A) (other : A) (rs ss : List Row) (n : �
   pub none-by : numbered rs ≡ true → n ≡ 0 → byFirst given other (rs ++ ss) ≡ byFirst given other ss
   none-by e z = joined given other rs ss ∙ none-alone given _ rs n tried e z
 
+-- a row behind some that never applies where none of them does changes no answer
+pub never-reached : (rs : List Row) (last : Row) → (NoneApplies rs → last .applies ≡ false) → firstOf (rs ++ (last ∷ [])) ≡ firstOf rs
+never-reached rs last never =
+    joined (λ n. n) 0 rs (last ∷ [])
+    ∙ by-rows (λ n. n) (firstOf (last ∷ [])) (λ n. n ≡ firstOf rs) rs
+    (λ n f. sym (first-is (λ n. n) 0 rs n f))
+    (λ none. none-is (λ n. n) 0 (last ∷ []) (never none, tt) ∙ sym (none-is (λ n. n) 0 rs none))
+
 -- whether the row of a number applies, so that a proof finds it by its number and not by its place
 abbrev pub appliesAt : ℕ → List Row → Bool
 appliesAt n [] = false
