@@ -44,6 +44,7 @@ pub fn tape() -> Tape {
     cases.fills();
     cases.hops();
     cases.no_room();
+    cases.no_block_before();
     cases.recent_lists();
     cases.arrivals();
     cases.large_sheets(&mut Rng::new(51));
@@ -300,6 +301,22 @@ impl Cases {
             ] {
                 let answer = self.run(&format!("no room, {name}{what}"), &Setup::new(message.clone(), &plan));
                 assert_eq!(answer, Answer { number: expected, code: Some(0x81) });
+            }
+        }
+    }
+
+    /// No room and no type 4 block for 0x81: 13 comes before, for a Request without one or with another block first, and for a
+    /// Query with blocks behind it, in whatever room.
+    fn no_block_before(&mut self) {
+        let (query, request) = (faults::header(1), Header { hops: 255, ..faults::header(2) });
+        for length in [80, 548, 1420, 1424, 1472] {
+            let rest = length - 72;
+            for (what, message) in [
+                ("augmented alone", request.with(&[augmented(rest + 52, 4)])),
+                ("augmented first", request.with(&[augmented(rest, 4), standard(1)])),
+                ("query and blocks", query.with(&[standard(1), augmented(rest, 4)])),
+            ] {
+                self.expect(13, &format!("{what}, {length} bytes"), &Setup::new(message, &accepting()));
             }
         }
     }
