@@ -6,7 +6,7 @@ use mathlib.Core.Logic.{⊎-elim}
 use mathlib.Core.Path.{_≡_, refl, sym, ap, _∙_}
 use native.Mathlib.Omega.{arith}
 use lib.Dec.{leb, ltb, eqb}
-use lib.ListN.{length, take, drop}
+use lib.ListN.{length, drop}
 use borrow.Author.Tests.{le-ltb, lt-leb, ne-eqb, ltb-true, ltb-false, leb-false, not-false}
 use Rattle.rows.specs.Rows.{Row, row, firstOf, NoneApplies, IsFirst}
 use Rattle.rows.proofs.Laws.{decided, neither-of, none-is, number-kept, given-by, none-by, some-first, zero-none, first-at-most, never-reached, appliesAt, none-at, none-joined, none-split}
@@ -18,17 +18,17 @@ use Rattle.sheet.specs.Tables.{holderOf}
 use Rattle.message.specs.Format.{most, standardSize, noteSize}
 use Rattle.message.specs.Header.{headerOf}
 use Rattle.message.specs.Blocks.{standardCount}
-use Rattle.message.specs.Room.{isFull, leastRoom, hopsUsed}
+use Rattle.message.specs.Room.{leastRoom, hopsUsed}
 use Rattle.message.specs.Check.{headerRows, messageRows}
 use Rattle.message.specs.Inside.{blocksSeen}
 use Rattle.drops.specs.declared.Verdict.{Verdict}
 use Rattle.drops.specs.Inside.{lentRows, dropVerdict, passVerdict, judgedOf, verdictOf}
 use Rattle.message.proofs.Laws.{Accepted, none-applies, applies-none, no-room-has-standard}
 use Rattle.drops.specs.Arrival.{Arrival, isQuery, isRequest, lastHopFor}
-use Rattle.drops.specs.Drop.{dropRoom, dropState, dropSheet, dropIface, dropDest, dropNear, dropCount, dropSeen, dropLastHop, dropNoPrev, lastDrop, nearTtl, isHeld, lendingRows, deliveryRows, routeRows, table, dropOf}
+use Rattle.drops.specs.Drop.{dropRoom, dropState, dropSheet, dropIface, dropDest, dropNear, dropCount, dropSeen, dropLastHop, lastDrop, nearTtl, isHeld, lendingRows, deliveryRows, routeRows, table, dropOf}
 
 module _ (a : Arrival) (sheet recent : List ℕ) (output note : ℕ) where
-  -- every number of the table is one of 1 to 19
+  -- every number of the table is one of 1 to 18
   zero-passes : dropOf a sheet recent output note ≡ 0 → NoneApplies (table a sheet recent output note)
   unfolding table lendingRows messageRows headerRows deliveryRows routeRows
   zero-passes = zero-none (table a sheet recent output note) refl
@@ -60,10 +60,11 @@ module _ (a : Arrival) (sheet recent : List ℕ) (output note : ℕ) where
   behind =
       let h = headerOf (a .message) in
       deliveryRows sheet recent h (hopsUsed (a .message)) (a .destination) (a .ttl)
-      ++ routeRows (lastHopFor sheet h) h (standardCount (a .message)) (isFull (a .message)) (a .destination)
+      ++ routeRows (lastHopFor sheet h) h (a .destination)
 
-  itself : (rest : List Row) → NoneApplies (before ++ (messageRows (a .message) ++ rest)) → NoneApplies (messageRows (a .message))
-  itself rest none = none-split (messageRows (a .message)) rest (none-split before (messageRows (a .message) ++ rest) none .1) .0
+  itself : NoneApplies (table a sheet recent output note) → NoneApplies (messageRows (a .message))
+  unfolding table
+  itself none = none-split (messageRows (a .message)) behind (none-split before (messageRows (a .message) ++ behind) none .1) .0
 
   pub taken : NoneApplies (table a sheet recent output note) → Taken a sheet recent output note
   unfolding table lendingRows messageRows headerRows deliveryRows routeRows
@@ -76,7 +77,7 @@ module _ (a : Arrival) (sheet recent : List ℕ) (output note : ℕ) where
         recent-formed = not-false (wellFormed recent) (at dropState);
         sheet-valid = not-false (layoutOf sheet .valid) (at dropSheet);
         receives = leb-false _ _ (at dropIface);
-        message = none-applies (a .message) (itself behind none);
+        message = none-applies (a .message) (itself none);
         reaches = not-false (isHeld (holderOf sheet (a .destination)) || linkScoped (a .destination)) (at dropDest);
         near = at dropNear;
         few = at dropCount;
@@ -84,31 +85,28 @@ module _ (a : Arrival) (sheet recent : List ℕ) (output note : ℕ) where
         last-hop = at dropLastHop;
       }
 
-  -- whatever is accepted has room, in any room that a link leaves, or a type 4 block
-  has-previous : Accepted (a .message) → (room : ℕ) → leastRoom ≤ room
-      → (ltb room (length (a .message) + standardSize) && eqb (standardCount (a .message)) 0) ≡ false
-  has-previous accepts room link =
+  -- document 01 has one row more, for a message with no room to append and no type 4 block: here of any number, and in any room
+  abbrev noPrevious : ℕ → ℕ → Row
+  noPrevious number room = row number (ltb room (length (a .message) + standardSize) && eqb (standardCount (a .message)) 0)
+
+  has-previous : (number room : ℕ) → leastRoom ≤ room → Accepted (a .message) → noPrevious number room .applies ≡ false
+  has-previous number room link accepts =
       let m = a .message in
       ⊎-elim (λ e. rw (e, ne-eqb (standardCount m) 0 (λ z. omega (arith, no-room-has-standard m accepts room link (ltb-true _ _ e))))) (λ e. rw e)
       (decided (ltb room (length m + standardSize)))
 
-  -- so row 19 is met by no input: no number passes 18, though the table goes on
-  pub no-prev-never : dropOf a sheet recent output note ≤ dropLastHop
-  unfolding table lendingRows messageRows headerRows deliveryRows routeRows
-  no-prev-never =
-      let m = a .message in
-      let others : List Row = take 18 (table a sheet recent output note) in
-      let rest : List Row = take 5 behind in
-      let last : Row = row dropNoPrev (isFull m && eqb (standardCount m) 0) in
-      let never : NoneApplies others → last .applies ≡ false = λ none. has-previous (none-applies m (itself rest none)) most (omega arith) in
-      rw (never-reached others last never) (first-at-most others dropLastHop refl)
+  -- no input meets it in a room that a link leaves: behind the table it would change no answer
+  pub no-previous-idle : (number room : ℕ) → leastRoom ≤ room
+      → firstOf (table a sheet recent output note ++ (noPrevious number room ∷ [])) ≡ dropOf a sheet recent output note
+  no-previous-idle number room link =
+      never-reached (table a sheet recent output note) (noPrevious number room) (λ none. has-previous number room link (taken none .message))
 
   pub not-dropped : Taken a sheet recent output note → NoneApplies (table a sheet recent output note)
   unfolding table lendingRows deliveryRows routeRows
   not-dropped t =
       let first : NoneApplies before =
       (rw (le-ltb _ _ (t .output-room), le-ltb _ _ (t .note-room)), (rw (t .recent-formed), (rw (t .sheet-valid), (lt-leb _ _ (t .receives), tt)))) in
-      let last : NoneApplies behind = (rw (t .reaches), (t .near, (t .few, (t .unseen, (t .last-hop, (has-previous (t .message) most (omega arith), tt)))))) in
+      let last : NoneApplies behind = (rw (t .reaches), (t .near, (t .few, (t .unseen, (t .last-hop, tt))))) in
       none-joined before (messageRows (a .message) ++ behind) first
       (none-joined (messageRows (a .message)) behind (applies-none (a .message) (t .message)) last)
 

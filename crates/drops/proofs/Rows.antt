@@ -27,8 +27,7 @@ use Rattle.drops.specs.Arrival.{arrival, isQuery, routeFor, lastHopFor}
 use Rattle.rows.specs.Rows.{Row, byFirst, firstOf}
 use Rattle.rows.proofs.Laws.{given-alone, none-alone, given-by, none-by}
 use Rattle.message.specs.Format.{query}
-use Rattle.message.specs.Room.{isFull}
-use Rattle.drops.specs.Drop.{dropLastHop, dropNoPrev, isHeld, lendingRows, deliveryRows, routeRows, table}
+use Rattle.drops.specs.Drop.{dropLastHop, isHeld, lendingRows, deliveryRows, routeRows, table}
 use Rattle.drops.specs.Inside.{sheetRows, dropVerdict, passVerdict, routedOf, judgedOf}
 
 -- an interface holds the address, or none does
@@ -49,47 +48,41 @@ seen-no-query h x no-query = rw (ne-eqb (h .kind) query no-query)
 pub seen-query : (h : Header) (x y : Bool) → h .kind ≡ query → y ≡ x → y ≡ (isQuery h && x)
 seen-query h x y is-query e = rw (eq-eqb (h .kind) query is-query) e
 
--- rows 18 and 19
-module _ (proper : Bool) (h : Header) (blocks destination : ℕ) (full x : Bool) (told : x ≡ linkScoped destination) where
-  pub row-18 : (eqb (h .kind) query && x && not proper) ≡ true → dropLastHop ≡ firstOf (routeRows proper h blocks full destination)
+-- row 18
+module _ (proper : Bool) (h : Header) (destination : ℕ) (x : Bool) (told : x ≡ linkScoped destination) where
+  pub row-18 : (eqb (h .kind) query && x && not proper) ≡ true → dropLastHop ≡ firstOf (routeRows proper h destination)
   unfolding routeRows byFirst
   row-18 e = rw (← told, e)
 
-  module _ (not-18 : (eqb (h .kind) query && x && not proper) ≡ false) where
-    pub row-19 : (full && eqb blocks 0) ≡ true → dropNoPrev ≡ firstOf (routeRows proper h blocks full destination)
-    unfolding routeRows byFirst
-    row-19 e = rw (← told, not-18, e)
-
-    pub row-none : (full && eqb blocks 0) ≡ false → 0 ≡ firstOf (routeRows proper h blocks full destination)
-    unfolding routeRows byFirst
-    row-none e = rw (← told, not-18, e)
+  pub row-none : (eqb (h .kind) query && x && not proper) ≡ false → 0 ≡ firstOf (routeRows proper h destination)
+  unfolding routeRows byFirst
+  row-none e = rw (← told, e)
 
 -- row 18 asks of Queries alone
 asked-flag : (query scoped proper : Bool) → (query && scoped && not (query && proper)) ≡ (query && scoped && not proper)
 asked-flag true scoped proper = refl
 asked-flag false scoped proper = refl
 
-asked : (proper : Bool) (h : Header) (blocks destination : ℕ) (full : Bool)
-    → firstOf (routeRows (isQuery h && proper) h blocks full destination) ≡ firstOf (routeRows proper h blocks full destination)
+asked : (proper : Bool) (h : Header) (destination : ℕ) → firstOf (routeRows (isQuery h && proper) h destination) ≡ firstOf (routeRows proper h destination)
 unfolding routeRows
-asked proper h blocks destination full = rw (asked-flag (isQuery h) (linkScoped destination) proper)
+asked proper h destination = rw (asked-flag (isQuery h) (linkScoped destination) proper)
 
--- rows 14 to 19
-module _ (full : Bool) (h : Header) (b : Blocks) (destination ttl : ℕ) (s r : List ℕ) (n : ℕ)
+-- rows 14 to 18
+module _ (h : Header) (b : Blocks) (destination ttl : ℕ) (s r : List ℕ) (n : ℕ)
     (delivery : n ≡ firstOf (deliveryRows s r h (b .count) destination ttl)) where
   abbrev came : List Row
   came = deliveryRows s r h (b .count) destination ttl
 
   abbrev late : List Row
-  late = routeRows (lastHopFor s h) h (b .count) full destination
+  late = routeRows (lastHopFor s h) h destination
 
-  pub routed-dropped : (v : Verdict) → (n ≡ 0 → ⊥) → v ≡ dropVerdict n → v ≡ routedOf full h b destination ttl s r
+  pub routed-dropped : (v : Verdict) → (n ≡ 0 → ⊥) → v ≡ dropVerdict n → v ≡ routedOf h b destination ttl s r
   unfolding routedOf
   routed-dropped v some e = e ∙ sym (given-by dropVerdict (passVerdict h b s) came late n delivery some)
 
   module _ (none : n ≡ 0) (c : Chosen) (chosen : c ≡ whichRoute (routesOf s) (h .source) (h .group)) (p : Bool)
       (hop : p ≡ (isQuery h && properLastHop (interfaceOf s) (layoutOf s .interfaces) c (h .client))) (k : ℕ)
-      (row : k ≡ firstOf (routeRows p h (b .count) full destination)) where
+      (row : k ≡ firstOf (routeRows p h destination)) where
     is-route : c ≡ routeFor s h
     unfolding routeFor
     is-route = chosen
@@ -100,20 +93,20 @@ module _ (full : Bool) (h : Header) (b : Blocks) (destination ttl : ℕ) (s r : 
 
     late-row : k ≡ firstOf late
     late-row =
-        row ∙ ap (λ (x : Bool). firstOf (routeRows x h (b .count) full destination)) is-hop ∙ asked (lastHopFor s h) h (b .count) destination full
+        row ∙ ap (λ (x : Bool). firstOf (routeRows x h destination)) is-hop ∙ asked (lastHopFor s h) h destination
 
-    not-delivery : routedOf full h b destination ttl s r ≡ byFirst dropVerdict (passVerdict h b s) late
+    not-delivery : routedOf h b destination ttl s r ≡ byFirst dropVerdict (passVerdict h b s) late
     unfolding routedOf deliveryRows
     not-delivery = none-by dropVerdict (passVerdict h b s) came late n delivery refl none
 
-    pub routed-late : (v : Verdict) → (k ≡ 0 → ⊥) → v ≡ dropVerdict k → v ≡ routedOf full h b destination ttl s r
+    pub routed-late : (v : Verdict) → (k ≡ 0 → ⊥) → v ≡ dropVerdict k → v ≡ routedOf h b destination ttl s r
     routed-late v some e = e ∙ sym (not-delivery ∙ given-alone dropVerdict (passVerdict h b s) late k late-row some)
 
-    pub routed-taken : k ≡ 0 → record { number = 0; header = h; blocks = b; chosen = c; proper = p } ≡ routedOf full h b destination ttl s r
+    pub routed-taken : k ≡ 0 → record { number = 0; header = h; blocks = b; chosen = c; proper = p } ≡ routedOf h b destination ttl s r
     unfolding passVerdict routeRows
     routed-taken z = rw (is-hop, is-route) (sym (not-delivery ∙ none-alone dropVerdict (passVerdict h b s) late k late-row refl z))
 
--- rows 3 to 19
+-- rows 3 to 18
 module _ (m : List ℕ) (destination receiving ttl : ℕ) (s r : List ℕ) where
   abbrev verdict : Verdict
   verdict = judgedOf (arrival m destination receiving ttl) s r
@@ -128,7 +121,7 @@ module _ (m : List ℕ) (destination receiving ttl : ℕ) (s r : List ℕ) where
   abbrev last : List Row
   last =
       deliveryRows s r (headerOf m) (standardCount m) destination ttl
-      ++ routeRows (lastHopFor s (headerOf m)) (headerOf m) (standardCount m) (isFull m) destination
+      ++ routeRows (lastHopFor s (headerOf m)) (headerOf m) destination
 
   module _ (l : Layout) (layout : l ≡ layoutOf s) (n : ℕ) (tested : n ≡ firstOf (sheetRows l receiving)) where
     first-row : n ≡ firstOf first
@@ -147,7 +140,7 @@ module _ (m : List ℕ) (destination receiving ttl : ℕ) (s r : List ℕ) where
       judged-message v some e =
           e ∙ sym (not-sheet ∙ given-by dropVerdict pass (messageRows m) last (k .number) (check-number m k checked) some)
 
-      pub judged-routed : (v : Verdict) → k .number ≡ 0 → v ≡ routedOf (isFull m) (k .header) (k .blocks) destination ttl s r → v ≡ verdict
+      pub judged-routed : (v : Verdict) → k .number ≡ 0 → v ≡ routedOf (k .header) (k .blocks) destination ttl s r → v ≡ verdict
       unfolding routedOf blocksSeen messageRows headerRows acceptedMessage
       judged-routed v z e =
           let as-is = accepts-as m k checked z in

@@ -16,8 +16,7 @@ use Rattle.sheet.specs.Tables.{holderOf}
 use Rattle.message.specs.declared.Header.{Header}
 use Rattle.message.specs.Format.{most, noteSize}
 use Rattle.message.specs.Header.{headerOf}
-use Rattle.message.specs.Blocks.{standardCount}
-use Rattle.message.specs.Room.{isFull, hopsUsed}
+use Rattle.message.specs.Room.{hopsUsed}
 use Rattle.message.specs.Check.{messageRows}
 use Rattle.drops.specs.Arrival.{Arrival, isQuery, isRequest, lastHopFor}
 
@@ -49,12 +48,9 @@ dropSeen = 17
 abbrev pub dropLastHop : ℕ
 dropLastHop = 18
 
-abbrev pub dropNoPrev : ℕ
-dropNoPrev = 19
-
 -- the last of them
 abbrev pub lastDrop : ℕ
-lastDrop = dropNoPrev
+lastDrop = dropLastHop
 
 -- the TTL with which a Request comes from a neighbour
 abbrev pub nearTtl : ℕ
@@ -83,14 +79,14 @@ deliveryRows sheet recent h used destination ttl =
     ∷ row dropSeen (isQuery h && seenIn recent (h .client) (h .id))
     ∷ []
 
--- whether this is the proper last hop, and where 0x81 could go
-unfoldable pub routeRows : Bool → Header → ℕ → Bool → ℕ → List Row
-routeRows proper h blocks full destination =
+-- whether this is the proper last hop
+unfoldable pub routeRows : Bool → Header → ℕ → List Row
+routeRows proper h destination =
     row dropLastHop (isQuery h && linkScoped destination && not proper)
-    ∷ row dropNoPrev (full && eqb blocks 0)
     ∷ []
 
--- the whole table: 1 to 4, 5 to 13 on the message by itself, 14 to 17, 18 and 19
+-- the whole table: 1 to 4, 5 to 13 on the message by itself, 14 to 17, 18. Document 01 has one row more, which no input meets
+-- (law `no-previous-idle`)
 unfoldable pub table : Arrival → List ℕ → List ℕ → ℕ → ℕ → List Row
 table a sheet recent output note =
     let m = a .message in
@@ -98,7 +94,7 @@ table a sheet recent output note =
     lendingRows output note recent (layoutOf sheet) (a .receiving)
     ++ (messageRows m
     ++ (deliveryRows sheet recent h (hopsUsed m) (a .destination) (a .ttl)
-    ++ routeRows (lastHopFor sheet h) h (standardCount m) (isFull m) (a .destination)))
+    ++ routeRows (lastHopFor sheet h) h (a .destination)))
 
 -- the number of the first row that applies; 0 is no drop
 abbrev pub dropOf : Arrival → List ℕ → List ℕ → ℕ → ℕ → ℕ

@@ -1,7 +1,7 @@
 -- Inside: what only the contracts of inner functions cite, here and in the crates above. No entry's promise rests on it, and a reader of the definitions may pass it over.
 -- Here: the verdict on what arrives: the drop number, and for an accepted message all that was found out on the way.
 use Prim.Native.Nat.{ℕ}
-use mathlib.Core.Bool.{Bool, false, _&&_}
+use mathlib.Core.Bool.{false, _&&_}
 use mathlib.Core.List.{List, [], _++_}
 use lib.ListN.{take, drop}
 use Rattle.rows.specs.Rows.{Row, byFirst}
@@ -35,11 +35,11 @@ unfoldable pub passVerdict : Header → Blocks → List ℕ → Verdict
 passVerdict h blocks sheet =
     record { number = 0; header = h; blocks = blocks; chosen = routeFor sheet h; proper = isQuery h && lastHopFor sheet h }
 
--- from row 14 on, for a message of this header and these blocks, which is full or not
-unfoldable pub routedOf : Bool → Header → Blocks → ℕ → ℕ → List ℕ → List ℕ → Verdict
-routedOf full h blocks destination ttl sheet recent =
+-- from row 14 on, for a message of this header and these blocks
+unfoldable pub routedOf : Header → Blocks → ℕ → ℕ → List ℕ → List ℕ → Verdict
+routedOf h blocks destination ttl sheet recent =
     byFirst dropVerdict (passVerdict h blocks sheet)
-    (deliveryRows sheet recent h (blocks .count) destination ttl ++ routeRows (lastHopFor sheet h) h (blocks .count) full destination)
+    (deliveryRows sheet recent h (blocks .count) destination ttl ++ routeRows (lastHopFor sheet h) h destination)
 
 -- the verdict on what arrives, where rows 1 and 2 do not apply: by the table from row 3 on
 unfoldable pub judgedOf : Arrival → List ℕ → List ℕ → Verdict

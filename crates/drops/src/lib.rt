@@ -38,8 +38,6 @@ const DROP_SEEN: u32 = 17;
 
 const DROP_LASTHOP: u32 = 18;
 
-const DROP_NOPREV: u32 = 19;
-
 // The drop number, or 0 and what the answer needs: the header, the blocks, the route, and whether this is a Query's proper last hop.
 pub struct Verdict {
     pub number: u32,
@@ -146,15 +144,12 @@ fn delivery_row(
     0
 }
 
-// Rows 18 and 19.
-fn route_row(proper: bool, h: Header, blocks: usize, full: bool, destination: u32) -> u32
-    ensures { λ r. ⌜ r ≡ firstOf (routeRows proper h blocks full destination) ⌝ }
+// Row 18.
+fn route_row(proper: bool, h: Header, destination: u32) -> u32
+    ensures { λ r. ⌜ r ≡ firstOf (routeRows proper h destination) ⌝ }
 {
     if (h.kind == message::QUERY) & wire::link_scoped(destination) & !proper {
         return DROP_LASTHOP;
-    }
-    if full & (blocks == 0) {
-        return DROP_NOPREV;
     }
     0
 }
@@ -184,9 +179,8 @@ fn dropped(number: u32) -> Verdict
     }
 }
 
-// Rows 14 to 19, where the sheet, the recent list and the message itself are right.
+// Rows 14 to 18, where the sheet, the recent list and the message itself are right.
 fn routed(
-    full: bool,
     h: Header,
     b: Blocks,
     destination: u32,
@@ -197,7 +191,7 @@ fn routed(
 ) -> Verdict
     requires { ⌜ layout ≡ layoutOf (now sheet) ⌝ }
     requires { ⌜ Formed (now recent) ⌝ }
-    ensures { λ v. ⌜ v ≡ routedOf full h b destination ttl (now (sheet .entry)) (now (recent .entry)) ⌝ }
+    ensures { λ v. ⌜ v ≡ routedOf h b destination ttl (now (sheet .entry)) (now (recent .entry)) ⌝ }
 {
     let number = delivery_row(sheet, layout, recent, h, b.count, destination, ttl);
     if number != 0 {
@@ -205,7 +199,7 @@ fn routed(
     }
     let chosen = route::choose(sheet, layout, h.source, h.group);
     let proper = is_proper(sheet, layout, chosen, h);
-    let number = route_row(proper, h, b.count, full, destination);
+    let number = route_row(proper, h, destination);
     if number != 0 {
         return dropped(number);
     }
@@ -242,6 +236,5 @@ pub fn judge(
     }
     let h = m.header;
     let b = m.blocks;
-    let full = message::MOST < message.len() + message::STANDARD_SIZE;
-    routed(full, h, b, destination, ttl, sheet, layout, recent)
+    routed(h, b, destination, ttl, sheet, layout, recent)
 }

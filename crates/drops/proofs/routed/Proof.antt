@@ -1,4 +1,4 @@
--- `routed`: rows 14 to 19, one group behind the other.
+-- `routed`: rows 14 to 18, one group behind the other.
 use Rattle.drops.proofs.Rows.{routed-dropped, routed-late, routed-taken}
 use borrow.Author.Needs.{needs}
 use Rattle.drops.proofs.routed.Statement.{statement}
