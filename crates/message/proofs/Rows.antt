@@ -13,9 +13,9 @@ use Rattle.wire.specs.Numbers.{byteAt}
 use Rattle.message.specs.declared.Header.{Header}
 use Rattle.message.specs.declared.Blocks.{Blocks}
 use Rattle.message.specs.declared.Checked.{Checked}
-use Rattle.message.specs.Format.{headerSize, most, query, standard}
+use Rattle.message.specs.Format.{headerSize, most, query}
 use Rattle.message.specs.Header.{headerOf}
-use Rattle.message.specs.Blocks.{begins, blocksOf, totalSize, blocksEnd, standardFirst, fillsMessage, rightForm}
+use Rattle.message.specs.Blocks.{Placed, begins, blocksOf, totalSize, blocksEnd, standardFirst, fillsMessage, rightForm}
 use Rattle.message.specs.Check.{dropSize, dropBlocks, headerRows, messageRows}
 use Rattle.message.specs.Inside.{blocksSeen, refusedMessage, acceptedMessage, checkOf}
 use Rattle.rows.specs.Rows.{Row, row, byFirst, firstOf}
@@ -27,8 +27,12 @@ pub header-alone : (s : List ℕ) → length s ≡ headerSize → blocksOf s ≡
 unfolding blocksOf
 header-alone s e = no-blocks headerSize (drop headerSize s) (too-short _ (rw (length-drop headerSize s) (omega arith)))
 
+-- a block of a type, as the first of some
+abbrev headed : ℕ → List Placed
+headed kind = record { at = headerSize; kind = kind; size = 0 } ∷ []
+
 -- the type of the first block is the first byte behind the header; where no block begins there, a longer message is not filled
-first-kind : (s : List ℕ) → begins (drop headerSize s) ≡ true → standardFirst (blocksOf s) ≡ eqb (byteAt s headerSize) standard
+first-kind : (s : List ℕ) → begins (drop headerSize s) ≡ true → standardFirst (blocksOf s) ≡ standardFirst (headed (byteAt s headerSize))
 unfolding blocksOf standardFirst
 first-kind s b = rw (block-first headerSize (drop headerSize s) b, getD-drop headerSize s 0 0)
 
@@ -47,7 +51,7 @@ module _ (s : List ℕ) where
     form-none e = rw (ne-eqb _ _ k, header-alone s e) (sym (and-false (fillsMessage s)))
 
     pub form-request : (end : ℕ) → (length s ≡ headerSize → ⊥) → end ≡ blocksEnd s
-        → (eqb end (length s) && eqb (byteAt s headerSize) standard) ≡ rightForm s
+        → (eqb end (length s) && standardFirst (headed (byteAt s headerSize))) ≡ rightForm s
     unfolding rightForm fillsMessage
     form-request end n e =
         rw (ne-eqb _ _ k, e)
