@@ -68,7 +68,7 @@ struct arrival {
 
 static const char *const drop_names[BOUGH_DROP_LAST + 1] = {
     "",      "ROOM",   "STATE", "SHEET",  "IFACE",  "SIZE", "TYPE", "HEADER", "HOPS",    "GROUP",
-    "SOURCE", "PAIR",  "CLIENT", "BLOCKS", "DEST",  "NEAR", "COUNT", "SEEN",   "LASTHOP", "NOPREV",
+    "SOURCE", "PAIR",  "CLIENT", "BLOCKS", "DEST",  "NEAR", "COUNT", "SEEN",   "LASTHOP",
 };
 
 static volatile sig_atomic_t stop, reload;

@@ -178,8 +178,7 @@ extern "C" {
 #define BOUGH_DROP_COUNT 16           /* Request with as many blocks as hops, or more */
 #define BOUGH_DROP_SEEN 17            /* Query whose client and id are in the recent list */
 #define BOUGH_DROP_LASTHOP 18         /* Query to a group, and this is not the client's last hop */
-#define BOUGH_DROP_NOPREV 19          /* no room, and no block before: met by no message */
-#define BOUGH_DROP_LAST 19
+#define BOUGH_DROP_LAST 18
 
 #define BOUGH_SENT_ON 100             /* a Request to be sent on */
 #define BOUGH_REPLY 101               /* a Reply to be sent to the client; also a walk's end */
@@ -254,7 +253,7 @@ uint32_t bough_clock_arrival(uint64_t y);
  * recent: BOUGH_RECENT_SIZE bytes that the host zeroes once and lends at every step of this router; an
  * accepted Query is entered in it. output, record: lent for the answer; bytes past it stay as they are.
  *
- * 1 to 19: dropped; nothing is written; send nothing, to nobody.
+ * 1 to 18: dropped; nothing is written; send nothing, to nobody.
  *
  * 100, BOUGH_SENT_ON: a Request for the next router. Send output[0 .. length) to `destination` and `port`
  * of the record by the interface numbered `interface`, from the address `source`, with TTL 255:

@@ -20,7 +20,6 @@ pub enum Drop {
     Count = 16,
     Seen = 17,
     LastHop = 18,
-    NoPrev = 19,
 }
 
 impl Drop {

@@ -68,7 +68,7 @@ pub fn outcome(arrival: Arrival, sheet: &[u8], recent: &[u8]) -> Result<Outcome,
     if message.kind == Type::Query {
         recent.enter(query);
     }
-    let Sent { answer, message, record } = router.answer(&arrival, &message)?;
+    let Sent { answer, message, record } = router.answer(&arrival, &message);
     Ok(Outcome { answer, message, record: record.to_bytes(), recent })
 }
 
@@ -152,7 +152,7 @@ impl<'a> Router<'a> {
     }
 
     /// Steps 1 to 5.
-    fn answer(&self, arrival: &Arrival, message: &Message) -> Result<Sent, Drop> {
+    fn answer(&self, arrival: &Arrival, message: &Message) -> Sent {
         if arrival.message.len() + STANDARD > ROOM {
             return self.no_space(arrival, message);
         }
@@ -160,19 +160,19 @@ impl<'a> Router<'a> {
         bytes.extend(self.block(arrival.time, message));
         let upstream = self.onward(message);
         bytes[0] = if upstream.is_some() { REQUEST } else { REPLY };
-        Ok(match upstream {
+        match upstream {
             Some((destination, incoming)) => self.sent_on(bytes, destination, incoming),
             None => self.replied(bytes, message),
-        })
+        }
     }
 
     /// Step 1: no room for another block, which the last type 4 block's code tells.
-    fn no_space(&self, arrival: &Arrival, message: &Message) -> Result<Sent, Drop> {
-        let last = message.last_standard().ok_or(Drop::NoPrev)?;
+    fn no_space(&self, arrival: &Arrival, message: &Message) -> Sent {
+        let last = message.last_standard().expect("a Query has room, and a Request has a type 4 block");
         let mut bytes = arrival.message.to_vec();
         bytes[0] = REPLY;
         bytes[last.at + STANDARD - 1] = NO_SPACE;
-        Ok(self.replied(bytes, message))
+        self.replied(bytes, message)
     }
 
     fn replied(&self, message: Vec<u8>, received: &Message) -> Sent {

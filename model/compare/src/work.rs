@@ -333,7 +333,7 @@ fn early_drops() -> Vec<Work> {
     works
 }
 
-/// Drops 4 to 18; 19 is met by no input.
+/// Drops 4 to 18.
 fn late_drops() -> Vec<Work> {
     let query = |header: Header| step(header.to_bytes(), blocks(2));
     let with = |message: Vec<u8>| step(message, blocks(2));
