@@ -15,12 +15,14 @@ pub struct InterfaceEntry {
     pub zero: u8,
     pub input: u64,
     pub output: u64,
+    pub mtu: u16,
+    pub zeros: u16,
 }
 
 impl InterfaceEntry {
-    /// A multicast interface.
+    /// A multicast interface, with the MTU of Ethernet.
     pub fn new(address: u32, length: u8) -> InterfaceEntry {
-        InterfaceEntry { address, length, flags: 1, threshold: 0, zero: 0, input: 0, output: 0 }
+        InterfaceEntry { address, length, flags: 1, threshold: 0, zero: 0, input: 0, output: 0, mtu: 1500, zeros: 0 }
     }
 
     fn to_bytes(self) -> Vec<u8> {
@@ -28,6 +30,8 @@ impl InterfaceEntry {
         bytes.extend([self.length, self.flags, self.threshold, self.zero]);
         bytes.extend(self.input.to_be_bytes());
         bytes.extend(self.output.to_be_bytes());
+        bytes.extend(self.mtu.to_be_bytes());
+        bytes.extend(self.zeros.to_be_bytes());
         bytes
     }
 }

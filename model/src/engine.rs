@@ -1,8 +1,8 @@
-//! One router's step (document 01, "Drop numbers" and "One router's step").
+//! One router's step (document 01, "Drop numbers" and "One router's step"; document 02, the link's room).
 
 use crate::bytes::{is_admin_scoped, is_link_scoped};
 use crate::drops::Drop;
-use crate::message::{Message, Type, REPLY, REQUEST, ROOM, STANDARD, STANDARD_BLOCK};
+use crate::message::{Message, Type, MOST, REPLY, REQUEST, STANDARD, STANDARD_BLOCK};
 use crate::recent::{Entry, Recent};
 use crate::sheet::{has, Interface, Kind, Route, Sheet, Upstream, UNKNOWN};
 
@@ -15,6 +15,8 @@ const PORT: u16 = 33_435;
 const ALL_ROUTERS: u32 = 0xe000_0002;
 const NO_SPACE: u8 = 0x81;
 const NEAR_TTL: u32 = 255;
+/// What an MTU counts beside the message: the headers of IPv4 and UDP.
+pub const IP_AND_UDP: usize = 20 + 8;
 const GROUP_MASK: u8 = 127;
 
 /// A message and how it arrived.
@@ -39,7 +41,7 @@ pub struct Outcome {
 /// One step over lent bytes: a drop number and nothing changed, or 100 or 101 with output, record
 /// and recent list written.
 pub fn step(arrival: Arrival, sheet: &[u8], recent: &mut [u8], output: &mut [u8], record: &mut [u8]) -> u32 {
-    if output.len() < ROOM || record.len() < RECORD {
+    if output.len() < MOST || record.len() < RECORD {
         return Drop::Room.number();
     }
     match outcome(arrival, sheet, recent) {
@@ -136,6 +138,13 @@ impl<'a> Router<'a> {
         route.incoming.map(|number| &self.sheet.interfaces[number])
     }
 
+    /// What a message may take on the link towards the source: that of the incoming interface, or of the receiving one where no
+    /// route or no incoming interface is known.
+    fn room(&self) -> usize {
+        let link = self.route.and_then(|route| self.incoming(route)).unwrap_or(self.interface());
+        MOST.min(usize::from(link.mtu) - IP_AND_UDP)
+    }
+
     /// Drop numbers 14 to 18.
     fn admit(&self, arrival: &Arrival, message: &Message, seen: bool) -> Result<(), Drop> {
         let to_link = is_link_scoped(arrival.destination);
@@ -153,7 +162,7 @@ impl<'a> Router<'a> {
 
     /// Steps 1 to 5.
     fn answer(&self, arrival: &Arrival, message: &Message) -> Sent {
-        if arrival.message.len() + STANDARD > ROOM {
+        if arrival.message.len() + STANDARD > self.room() {
             return self.no_space(arrival, message);
         }
         let mut bytes = arrival.message.to_vec();
@@ -166,7 +175,7 @@ impl<'a> Router<'a> {
         }
     }
 
-    /// Step 1: no room for another block, which the last type 4 block's code tells.
+    /// Step 1: no room for another block, which the last type 4 block's code tells. On its way home the message is not measured.
     fn no_space(&self, arrival: &Arrival, message: &Message) -> Sent {
         let last = message.last_standard().expect("a Query has room, and a Request has a type 4 block");
         let mut bytes = arrival.message.to_vec();
@@ -289,10 +298,10 @@ mod tests {
 
     const GROUP: u32 = ip(232, 1, 1, 1);
 
-    fn sheet(prohibited: bool) -> Vec<u8> {
+    fn plan(prohibited: bool) -> SheetPlan {
         let interfaces = vec![InterfaceEntry::new(ip(10, 0, 0, 1), 24), InterfaceEntry::new(ip(10, 0, 1, 1), 24)];
         let routes = vec![RouteEntry::group(GROUP).by(1, u32::MAX, 1)];
-        SheetPlan { prohibited, interfaces, routes }.to_bytes()
+        SheetPlan { prohibited, interfaces, routes }
     }
 
     fn header(kind: u8, hops: u8) -> Header {
@@ -300,8 +309,12 @@ mod tests {
     }
 
     fn run(message: &[u8], prohibited: bool) -> Result<Outcome, Drop> {
+        run_in(&plan(prohibited), message)
+    }
+
+    fn run_in(plan: &SheetPlan, message: &[u8]) -> Result<Outcome, Drop> {
         let arrival = Arrival { message, destination: ip(10, 0, 0, 1), receiving: 0, ttl: 255, time: 5 };
-        outcome(arrival, &sheet(prohibited), &Recent::default().to_bytes())
+        outcome(arrival, &plan.to_bytes(), &Recent::default().to_bytes())
     }
 
     #[test]
@@ -315,6 +328,31 @@ mod tests {
         expected[0] = 3;
         expected[71] = 0x81;
         assert_eq!(reply.message, expected);
+    }
+
+    /// Whether a Request of this length is full, where receiving and incoming interface have these MTUs.
+    fn is_full(mtus: [u16; 2], route: Option<RouteEntry>, length: usize) -> bool {
+        let mut plan = SheetPlan { routes: route.into_iter().collect(), ..plan(false) };
+        plan.interfaces.iter_mut().zip(mtus).for_each(|(interface, mtu)| interface.mtu = mtu);
+        let sent = run_in(&plan, &header(2, 255).with(&[standard(1), augmented(length - 72, 1)])).unwrap();
+        assert_eq!(sent.message.len() == length, sent.message[71] == 0x81);
+        sent.message.len() == length
+    }
+
+    #[test]
+    fn room_is_the_links() {
+        let by_link = RouteEntry::group(GROUP).by(1, u32::MAX, 1);
+        let unknown = RouteEntry::group(GROUP);
+        for other in [576, 65_535] {
+            for (length, mtu) in [(496, 576), (920, 1000), (1420, 1500)] {
+                for (mtu, full) in [(mtu - 1, true), (mtu, false)].into_iter().filter(|(mtu, _)| *mtu > 575) {
+                    assert_eq!(is_full([other, mtu], Some(by_link), length), full);
+                    assert_eq!(is_full([mtu, other], Some(unknown), length), full);
+                    assert_eq!(is_full([mtu, other], None, length), full);
+                }
+            }
+        }
+        assert!(is_full([65_535; 2], Some(by_link), 1424) && is_full([576; 2], Some(by_link), 1472));
     }
 
     #[test]

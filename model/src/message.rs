@@ -7,7 +7,7 @@ pub const HEADER: usize = 20;
 /// The length of a Standard Response Block.
 pub const STANDARD: usize = 52;
 /// No message passes this.
-pub const ROOM: usize = 1472;
+pub const MOST: usize = 1472;
 
 pub const QUERY: u8 = 1;
 pub const REQUEST: u8 = 2;
@@ -50,7 +50,7 @@ pub struct Message {
 
 impl Message {
     pub fn parse(bytes: &[u8]) -> Result<Message, Drop> {
-        if bytes.len() < HEADER || bytes.len() > ROOM {
+        if bytes.len() < HEADER || bytes.len() > MOST {
             return Err(Drop::Size);
         }
         let kind = match bytes[0] {

@@ -2,11 +2,10 @@
 //! Query, and the yard; the walk's end and its blocks as text.
 
 use crate::bytes::{be16, be32};
-use crate::message::{blocks, BlockType, HEADER};
+use crate::message::{blocks, BlockType, HEADER, MOST};
 use crate::walk::{walk, Start, Walked, SHEET};
 
 const ARRIVAL: usize = 16;
-const ROOM: usize = 1472;
 
 /// What the program writes when it reads these bytes.
 pub fn run(input: &[u8]) -> String {
@@ -21,7 +20,7 @@ pub fn run(input: &[u8]) -> String {
         ttl: head[8].into(),
     };
     let times: Vec<u32> = (0..yard.len() / SHEET).map(|router| 65_536 * router as u32).collect();
-    let mut output = [0; ROOM];
+    let mut output = [0; MOST];
     let walked = walk(yard, &times, start, &mut output);
     first_line(&walked) + &block_lines(&output[..walked.length as usize])
 }

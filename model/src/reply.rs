@@ -1,7 +1,7 @@
 //! Replies as they are read, and the loss between two of them (document 02, M-100).
 
 use crate::bytes::{be16, be32, be64};
-use crate::message::{blocks, Block, BlockType, HEADER, REPLY, ROOM};
+use crate::message::{blocks, Block, BlockType, HEADER, MOST, REPLY};
 
 /// A count that a router did not know.
 const NOT_COUNTED: u64 = u64::MAX;
@@ -63,7 +63,7 @@ impl Fields {
 
 /// The blocks of both types, or why the Reply is not read. Of the header only type and length are looked at.
 pub fn check(reply: &[u8]) -> Result<Vec<Block>, Refusal> {
-    if reply.len() < HEADER || reply.len() > ROOM {
+    if reply.len() < HEADER || reply.len() > MOST {
         return Err(Refusal::Size);
     }
     if reply[0] != REPLY {

@@ -1,4 +1,4 @@
-//! A sheet, one router's tables (document 01, "Sheet", "Which route" and the proper last hop): parsed
+//! A sheet, one router's tables (document 01, "Sheet", "Which route" and the proper last hop; document 02, the MTU): parsed
 //! into interfaces and routes, or the rule that it breaks.
 
 use crate::bytes::{all_zero, be16, be32, be64, in_prefix, is_multicast, is_unicast, mask, ALL_ONES};
@@ -8,9 +8,10 @@ pub const MOST_BLOCKS: usize = 16;
 pub const MOST_INTERFACES: usize = 64;
 /// An incoming interface that is not known.
 pub const UNKNOWN: u16 = 65_535;
+pub const LEAST_MTU: u16 = 576;
 
-const ENTRIES: usize = 4;
-const SWITCHES: usize = 508;
+pub const ENTRIES: usize = 4;
+pub const SWITCHES: usize = 508;
 
 /// What a block holds: interfaces or routes.
 #[derive(Clone, Copy, Debug, PartialEq, Eq, PartialOrd, Ord)]
@@ -28,9 +29,9 @@ impl Table {
         }
     }
 
-    pub fn entry_size(self) -> usize {
+    pub const fn entry_size(self) -> usize {
         match self {
-            Table::Interfaces => 24,
+            Table::Interfaces => 28,
             Table::Routes => 56,
         }
     }
@@ -58,6 +59,8 @@ pub enum Rule {
     InterfaceLength,
     InterfaceFlags,
     InterfaceZero,
+    InterfaceMtu,
+    InterfaceZeros,
     RouteKind,
     RouteLength,
     RouteFlags,
@@ -78,6 +81,7 @@ pub struct Interface {
     pub threshold: u8,
     pub input: u64,
     pub output: u64,
+    pub mtu: u16,
 }
 
 #[derive(Clone, Copy, Debug, PartialEq, Eq)]
@@ -164,11 +168,13 @@ impl<'a> Block<'a> {
 
 impl Interface {
     fn parse(entry: &[u8]) -> Result<Interface, Rule> {
-        let (address, length, flags) = (be32(entry, 0), entry[4], entry[5]);
+        let (address, length, flags, mtu) = (be32(entry, 0), entry[4], entry[5], be16(entry, 24));
         keep(is_unicast(address), Rule::InterfaceAddress)?;
         keep((1..=32).contains(&length), Rule::InterfaceLength)?;
         keep(flags & !3 == 0, Rule::InterfaceFlags)?;
         keep(entry[7] == 0, Rule::InterfaceZero)?;
+        keep(mtu >= LEAST_MTU, Rule::InterfaceMtu)?;
+        keep(be16(entry, 26) == 0, Rule::InterfaceZeros)?;
         Ok(Interface {
             address,
             length,
@@ -177,6 +183,7 @@ impl Interface {
             threshold: entry[6],
             input: be64(entry, 8),
             output: be64(entry, 16),
+            mtu,
         })
     }
 
@@ -378,16 +385,31 @@ mod tests {
 
     #[test]
     fn shapes() {
-        for (count, valid) in [(1, true), (21, true), (22, true), (63, true), (64, true), (65, false)] {
+        for (count, valid) in [(1, true), (18, true), (19, true), (36, true), (37, true), (64, true), (65, false)] {
             let sheet = SheetPlan { interfaces: interfaces(count), ..SheetPlan::default() };
             let expected = if valid { Ok(count) } else { Err(Rule::TooManyInterfaces) };
-            assert_eq!(Sheet::parse(&sheet.to_bytes()).map(|sheet| sheet.interfaces.len()), expected);
+            let bytes = sheet.to_bytes();
+            assert_eq!(bytes.len(), BLOCK * count.div_ceil(18));
+            assert_eq!(Sheet::parse(&bytes).map(|sheet| sheet.interfaces.len()), expected);
         }
         let many = |count| with_routes(vec![RouteEntry::group(GROUP); count]).to_bytes();
         assert_eq!(Sheet::parse(&many(135)).map(|sheet| sheet.routes.len()), Ok(135));
         assert_eq!(Sheet::parse(&many(136)), Err(Rule::Length));
         assert_eq!(Sheet::parse(&[]), Err(Rule::Length));
         assert_eq!(Sheet::parse(&many(1)[..1023]), Err(Rule::Length));
+    }
+
+    #[test]
+    fn mtus() {
+        let with = |change: fn(&mut InterfaceEntry)| {
+            let mut plan = with_routes(Vec::new());
+            change(&mut plan.interfaces[1]);
+            Sheet::parse(&plan.to_bytes()).map(|sheet| sheet.interfaces[1].mtu)
+        };
+        assert_eq!(with(|_| ()), Ok(1500));
+        assert_eq!([with(|entry| entry.mtu = 0), with(|entry| entry.mtu = 575)], [Err(Rule::InterfaceMtu); 2]);
+        assert_eq!([with(|entry| entry.mtu = 576), with(|entry| entry.mtu = 65_535)], [Ok(576), Ok(65_535)]);
+        assert_eq!([with(|entry| entry.zeros = 1), with(|entry| entry.zeros = 256)], [Err(Rule::InterfaceZeros); 2]);
     }
 
     #[test]
@@ -415,9 +437,9 @@ mod tests {
 
     #[test]
     fn a_partly_filled_block_is_the_last_of_its_kind() {
-        let mut sheet = SheetPlan { interfaces: interfaces(22), ..SheetPlan::default() }.to_bytes();
-        sheet[1] = 20;
-        sheet[4 + 20 * 24..508].fill(0);
+        let mut sheet = SheetPlan { interfaces: interfaces(19), ..SheetPlan::default() }.to_bytes();
+        sheet[1] = 17;
+        sheet[ENTRIES + 17 * Table::Interfaces.entry_size()..SWITCHES].fill(0);
         mend_all(&mut sheet);
         assert_eq!(Sheet::parse(&sheet), Err(Rule::PartlyFilled));
     }

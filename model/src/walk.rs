@@ -2,11 +2,11 @@
 
 use crate::bytes::{be32, is_multicast};
 use crate::engine::{self, Arrival, Outcome, REPLIED};
-use crate::message::{self, BlockType, REQUEST, ROOM};
+use crate::message::{self, BlockType, MOST, REQUEST};
 use crate::recent::Recent;
-use crate::sheet::Sheet;
+use crate::sheet::{Sheet, BLOCK};
 
-pub const SHEET: usize = 1024;
+pub const SHEET: usize = 2 * BLOCK;
 pub const MOST_ROUTERS: usize = 32;
 const BAD_OUTPUT: u32 = 1;
 const BAD_YARD: u32 = 21;
@@ -80,7 +80,7 @@ pub fn walk(yard: &[u8], times: &[u32], start: Start, output: &mut [u8]) -> Walk
 /// The refusals, in order.
 fn check(yard: &[u8], times: &[u32], start: Start, output: usize) -> Result<(), u32> {
     let routers = yard.len() / SHEET;
-    if output < ROOM {
+    if output < MOST {
         return Err(BAD_OUTPUT);
     }
     if !yard.chunks_exact(SHEET).remainder().is_empty() || !(1..=MOST_ROUTERS).contains(&routers) {

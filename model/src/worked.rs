@@ -6,19 +6,23 @@ use crate::walk::{Start, SHEET};
 const GROUP: u32 = ip(232, 1, 1, 1);
 pub const DESTINATION: u32 = ip(192, 0, 2, 1);
 
-fn router(interfaces: [u32; 2], upstream: u32) -> Vec<u8> {
+fn router(interfaces: [u32; 2], upstream: u32) -> SheetPlan {
     let route = RouteEntry::source_and_group(ip(203, 0, 113, 0), 24, GROUP).by(1, upstream, 1);
     let interfaces = interfaces.map(|address| InterfaceEntry::new(address, 24)).to_vec();
-    let sheet = SheetPlan { interfaces, routes: vec![route], ..SheetPlan::default() }.to_bytes();
-    assert_eq!(sheet.len(), SHEET);
-    sheet
+    SheetPlan { interfaces, routes: vec![route], ..SheetPlan::default() }
 }
 
 /// Two routers; the second one's upstream is 0 in P1.
-pub fn yard(upstream_of_second: u32) -> Vec<u8> {
+pub fn routers(upstream_of_second: u32) -> [SheetPlan; 2] {
     let first = router([DESTINATION, ip(198, 51, 100, 1)], ip(198, 51, 100, 2));
     let second = router([ip(198, 51, 100, 2), ip(203, 0, 113, 1)], upstream_of_second);
-    [first, second].concat()
+    [first, second]
+}
+
+pub fn yard(upstream_of_second: u32) -> Vec<u8> {
+    let yard = routers(upstream_of_second).map(|router| router.to_bytes()).concat();
+    assert_eq!(yard.len(), 2 * SHEET);
+    yard
 }
 
 pub fn query(hops: u8) -> Vec<u8> {
@@ -40,8 +44,12 @@ mod tests {
 
     /// The walk, the last message sent, and the codes of its blocks.
     fn run(upstream_of_second: u32, hops: u8) -> (Walked, Vec<u8>, Vec<u8>) {
+        run_in(&yard(upstream_of_second), hops)
+    }
+
+    fn run_in(yard: &[u8], hops: u8) -> (Walked, Vec<u8>, Vec<u8>) {
         let mut output = vec![0xee; 1500];
-        let walked = walk(&yard(upstream_of_second), &[0, 65_536], start(&query(hops)), &mut output);
+        let walked = walk(yard, &[0, 65_536], start(&query(hops)), &mut output);
         let (message, rest) = output.split_at(walked.length as usize);
         assert!(rest.iter().all(|byte| *byte == 0xee));
         let codes = message.get(20..).unwrap_or(&[]).chunks(BLOCK).map(|block| block[51]).collect();
@@ -79,6 +87,16 @@ mod tests {
         let (walked, _, codes) = run(ip(198, 51, 100, 1), 255);
         assert_eq!(walked, Walked { end: 101, steps: 28, blocks: 27, length: 1424 });
         assert_eq!(codes.last(), Some(&129));
+    }
+
+    /// P3 where both links have the least MTU.
+    #[test]
+    fn p3_in_tunnels() {
+        let mut routers = routers(ip(198, 51, 100, 1));
+        routers.iter_mut().for_each(|router| router.interfaces[1].mtu = 576);
+        let (walked, _, codes) = run_in(&routers.map(|router| router.to_bytes()).concat(), 255);
+        assert_eq!(walked, Walked { end: 101, steps: 11, blocks: 10, length: 540 });
+        assert_eq!(codes, [0, 0, 9, 0, 9, 0, 9, 0, 9, 129]);
     }
 
     #[test]

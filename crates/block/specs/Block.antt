@@ -40,7 +40,7 @@ blockNumber b = be16 b 2
 abbrev pub switchesOf : List ℕ → ℕ
 switchesOf b = be16 b switchesAt
 
--- how many entries of a size a block has room for: 21 interfaces of 24 bytes, 9 routes of 56
+-- how many entries of a size a block has room for: 18 interfaces of 28 bytes, 9 routes of 56
 abbrev pub entriesEach : ℕ → ℕ
 entriesEach size = entriesRoom / size
 

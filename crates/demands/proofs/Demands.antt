@@ -1,7 +1,7 @@
 -- What is proved of the demands, in one page: each line is a theorem, and cites its proof. The demands themselves are in specs/:
 -- Engine.antt (1 and 2), Clock.antt (2, the times), Walk.antt (3), Read.antt (3, of what is read), Entries.antt (how C is handed what they
 -- speak of).
-use Prim.Native.Nat.{ℕ, _≤_}
+use Prim.Native.Nat.{ℕ, _+_, _≤_}
 use mathlib.Core.List.{List, []}
 use mathlib.Core.Path.{_≡_}
 use denote.Ref.{RefT, now}
@@ -14,7 +14,11 @@ use Rattle.clock.specs.Unix.{unixOf}
 use Rattle.message.specs.Format.{most}
 use Rattle.response.specs.declared.Block.{Block}
 use Rattle.response.specs.Bytes.{blockBytes}
-use Rattle.engine.specs.Answer.{sentHome}
+use Rattle.sheet.specs.Tables.{interfaceOf}
+use Rattle.drops.proofs.Laws.{taken}
+use Rattle.response.proofs.Laws.{ipv4-writes}
+use Rattle.engine.proofs.Laws.{sent-on-fits}
+use Rattle.engine.specs.Answer.{sentOn, sentHome, sentBy}
 use Rattle.engine.specs.Step.{stepOf}
 use Rattle.reply.specs.declared.Standard.{Standard}
 use Rattle.reply.specs.declared.Handed.{Handed}
@@ -33,13 +37,22 @@ use Rattle.demands.proofs.ClockMet.{clock-meets, no-other-clock, unix-m
 use Rattle.demands.proofs.WalkMet.{walkTold, walk-meets, no-other-walk}
 use Rattle.demands.proofs.ReadMet.{walk-readable, reading-true, one-reading, reads-back}
 use Rattle.demands.proofs.Worked.{failing, examples, worked, starts}
+use Rattle.format.specs.Sizes.{ipv4, ipv4-sound, ipAndUdp, outputSize}
 
 -- 1 and 2. The engine meets them, and whatever does gives its outcome in every call
-pub engine-is-right : EngineMeets stepOf
+pub engine-is-right : EngineMeets (stepOf ipv4)
 engine-is-right = engine-meets
 
-pub engine-is-one : (engine : Engine) → EngineMeets engine → (c : Call) → run engine c ≡ run stepOf c
+pub engine-is-one : (engine : Engine) → EngineMeets engine → (c : Call) → run engine c ≡ run (stepOf ipv4) c
 engine-is-one = no-other-engine
+
+-- a Request that is sent on fits the link on which it goes: with the IP and UDP headers it does not pass the MTU of the interface that its
+-- record names
+pub request-fits-its-link : (c : Call) → NoneApplies (rows c)
+    → let s = sentBy ipv4 (c .arrival) (c .time) (c .sheet) in s .answer ≡ sentOn → length (s .message) + ipAndUdp ≤ interfaceOf ipv4 (c .sheet) (s .note .interface) .mtu
+request-fits-its-link c none =
+    sent-on-fits ipv4-sound ipv4-writes (c .arrival) (c .time) (c .sheet) (c .recent) (length (c .output)) (length (c .note))
+    (taken ipv4-sound (c .arrival) (c .sheet) (c .recent) (length (c .output)) (length (c .note)) none)
 
 -- the clock, UNIX time and the arrival time
 pub clock-is-right : DemandClock startOf advanceOf
@@ -57,7 +70,7 @@ pub unix-is-one : (unix : ℕ → ℕ → Units) (arrival : ℕ → ℕ) → Dem
 unix-is-one = no-other-unix
 
 -- 3. The walk meets it, and whatever does, through whatever engine meets 1 and 2, tells the same of every yard
-pub walk-is-right : WalkMeets stepOf walkTold
+pub walk-is-right : WalkMeets (stepOf ipv4) walkTold
 walk-is-right = walk-meets
 
 pub walk-is-one : (engine : Engine) (walk : Walker) → EngineMeets engine → WalkMeets engine walk → (yard times : List ℕ) (v : Visit) (output : List ℕ)
@@ -67,11 +80,11 @@ walk-is-one = no-other-walk
 -- Reading a walk tells the truth. A walk that comes home brings a Reply that can be read; a reader that is opened on it and called once for
 -- each visit, or oftener, hands out what 3 says of the visits; and each field of what it hands out is the router's, where the numbers fit
 pub walk-can-be-read : (yard times : List ℕ) (v : Visit) (output : List ℕ) (visits : List Visit) (last : List ℕ)
-    → NoneApplies (walkRows yard times v (length output)) → NoneApplies (rows (callAt yard times v)) → Run stepOf yard times v visits sentHome last → Readable last
+    → NoneApplies (walkRows ipv4 yard times v (length output)) → NoneApplies (rows (callAt yard times v)) → Run (stepOf ipv4) yard times v visits sentHome last → Readable last
 walk-can-be-read = walk-readable
 
 pub reading-is-true : (yard times : List ℕ) (v : Visit) (output : List ℕ) (visits : List Visit) (last : List ℕ)
-    → NoneApplies (walkRows yard times v (length output)) → NoneApplies (rows (callAt yard times v)) → Run stepOf yard times v visits sentHome last
+    → NoneApplies (walkRows ipv4 yard times v (length output)) → NoneApplies (rows (callAt yard times v)) → Run (stepOf ipv4) yard times v visits sentHome last
     → (message : RefT (List ℕ)) (reader left : Reader) (hs : List Handed) → now message ≡ last → Opens message reader → Calls reader hs left
     → length visits ≤ length hs → ReadTruth yard times v visits sentHome last (blocksOut hs)
 reading-is-true = reading-true
@@ -85,11 +98,11 @@ pub fields-are-read : (b : Block) → BlockFits b → Says b (standardOf (blockB
 fields-are-read = reads-back
 
 -- what it says of traces that the first router accepts is said of some: P1's is one
-pub some-trace-starts : NoneApplies (walkRows (twoRouters 0) twoTimes (startWith (paperQuery 10)) most)
+pub some-trace-starts : NoneApplies (walkRows ipv4 (twoRouters 0) twoTimes (startWith (paperQuery 10)) outputSize)
     × NoneApplies (rows (callAt (twoRouters 0) twoTimes (startWith (paperQuery 10))))
 some-trace-starts = starts
 
 -- The wrong programs that the demands shut out are in ShutOut.antt; the ten entries that a host calls, and what they leave, in
--- Entries.antt. P1 to P8: none of the worked examples fails
+-- Entries.antt. P1 to P8, and a loop of small links: none of the worked examples fails
 pub worked-through : failing examples ≡ []
 worked-through = worked

@@ -24,7 +24,7 @@ use Rattle.drops.specs.Drop.{dropRoom}
 use Rattle.engine.specs.Answer.{sentHome}
 use Rattle.engine.specs.Step.{Outcome, outcome, stepOf}
 use Rattle.yard.specs.Walk.{Visit, visit, Walk, walkRows, walkOf, walkedOf}
-use Rattle.message.specs.Format.{most, standardSize}
+use Rattle.message.specs.Format.{standardSize}
 use Rattle.message.specs.Blocks.{standardCount}
 use Rattle.message.specs.Room.{isFull}
 use Rattle.message.proofs.Laws.{standard-blocks-count}
@@ -57,10 +57,11 @@ use Rattle.servicebough.proofs.bough_reply_loss.Met as reply-loss-proof
 use Rattle.servicebough.proofs.bough_arrival_difference.Statement as arrival-difference
 use Rattle.servicebough.proofs.bough_arrival_difference.Met as arrival-difference-proof
 use Rattle.demands.specs.Engine.{Call, run, rows, Demand1, Demand2}
-use Rattle.demands.specs.Walk.{Told, told, callAt, Run, lastReceived, Truth, Demand3}
+use Rattle.demands.specs.Walk.{Told, told, callAt, Run, lastReceived, lastRoom, Truth, Demand3}
 use Rattle.demands.specs.Entries.{HandsTick, stepCall, HandsWalk, AnswerTells}
 use Rattle.demands.proofs.EngineMet.{engine-meets}
 use Rattle.demands.proofs.WalkMet.{walkTold, walk-meets}
+use Rattle.format.specs.Sizes.{ipv4, ipv4-sound}
 
 -- every entry ends on every input, does nothing undefined, and leaves what it ensures
 pub clock-starts : {M : Type 1} → clock-start.statement M
@@ -116,7 +117,7 @@ unix-is-handed κs a x e p = p
 pub arrival-is-handed : (κs : _) (a : _) (x : _) (e : _) → clock-arrival-ensures.Post κs a x e → x ≡ arrivalOf (a .0)
 arrival-is-handed κs a x e p = p
 
-step-is : (c : Call) (o : Outcome) → o ≡ run stepOf c → Demand1 c o × Demand2 c o
+step-is : (c : Call) (o : Outcome) → o ≡ run (stepOf ipv4) c → Demand1 c o × Demand2 c o
 step-is c o e = subst (λ (x : Outcome). Demand1 c x × Demand2 c x) (sym e) (engine-meets c)
 
 -- demands 1 and 2 hold of what a step leaves
@@ -132,15 +133,15 @@ step-is-handed κs a x e p =
 
 -- what the walk's entry ensures is how a telling is handed over
 module _ (yard times : List ℕ) (v : Visit) (output answer : List ℕ) (number : ℕ) (output′ answer′ : List ℕ)
-    (meets : handed number output′ answer′ ≡ walkHanded (walkOf yard times v (length output)) output answer) where
+    (meets : handed number output′ answer′ ≡ walkHanded (walkOf ipv4 yard times v (length output)) output answer) where
   abbrev w : Walk
-  w = walkOf yard times v (length output)
+  w = walkOf ipv4 yard times v (length output)
 
   short : length answer < answerSize → handed number output′ answer′ ≡ handed dropRoom output answer
   unfolding walkHanded byFirst
   short h = meets ∙ rw (lt-ltb (length answer) answerSize h)
 
-  long : answerSize ≤ length answer → handed number output′ answer′ ≡ handed (w .end) (splice output 0 (w .last)) (answerLeft (walkedOf w) answer)
+  long : answerSize ≤ length answer → handed number output′ answer′ ≡ handed (w .end) (splice output 0 (w .last)) (answerLeft (walkedOf ipv4 w) answer)
   unfolding walkHanded byFirst
   long h = meets ∙ rw (le-ltb (length answer) answerSize h)
 
@@ -170,7 +171,7 @@ pub walk-is-handed : (κs : _) (a : _) (x : _) (e : _) → walk-ensures.Post κs
     let v = visit (a .1 .1 .1 .0) (arrival (now (a .1 .1 .0)) (a .1 .1 .1 .1 .1 .0) (a .1 .1 .1 .1 .0) (a .1 .1 .1 .1 .1 .1 .0)) in
     let output = now (a .1 .1 .1 .1 .1 .1 .1 .0) in
     let t = walkTold yard times v output in
-    Demand3 stepOf yard times v output t
+    Demand3 (stepOf ipv4) yard times v output t
     × HandsWalk t output (now (a .1 .1 .1 .1 .1 .1 .1 .1 .0)) x (now (e .1 .1 .1 .1 .1 .1 .1 .0)) (now (e .1 .1 .1 .1 .1 .1 .1 .1 .0))
 walk-is-handed κs a x e p =
     let v = visit (a .1 .1 .1 .0) (arrival (now (a .1 .1 .0)) (a .1 .1 .1 .1 .1 .0) (a .1 .1 .1 .1 .0) (a .1 .1 .1 .1 .1 .1 .0)) in
@@ -201,8 +202,8 @@ module _ (answer : List ℕ) (room : answerSize ≤ length answer) (a b c d : �
 
 -- the 16 bytes of a walk that its first router accepts
 module _ (yard times : List ℕ) (v : Visit) (output answer : List ℕ) (number : ℕ) (output′ answer′ : List ℕ) (room : answerSize ≤ length answer)
-    (hands : HandsWalk (walkTold yard times v output) output answer number output′ answer′) (none : NoneApplies (walkRows yard times v (length output)))
-    (accepts : NoneApplies (rows (callAt yard times v))) (visits : List Visit) (end : ℕ) (last : List ℕ) (is : Run stepOf yard times v visits end last) where
+    (hands : HandsWalk (walkTold yard times v output) output answer number output′ answer′) (none : NoneApplies (walkRows ipv4 yard times v (length output)))
+    (accepts : NoneApplies (rows (callAt yard times v))) (visits : List Visit) (end : ℕ) (last : List ℕ) (is : Run (stepOf ipv4) yard times v visits end last) where
   tells : walkTold yard times v output ≡ told end (length visits) last output
   tells = walk-meets yard times v output .walks visits end last none is
 
@@ -212,16 +213,16 @@ module _ (yard times : List ℕ) (v : Visit) (output answer : List ℕ) (number 
   comes-home : sentHome ≤ end
   comes-home = ⊎-elim (λ e. omega arith) (λ e. ⊎-elim (λ f. omega arith) (λ f. omega arith) e) (true .ends)
 
-  few-blocks : standardCount last ≤ length visits
+  few-blocks : standardCount ipv4 last ≤ length visits
   few-blocks =
-      ⊎-elim (λ e. omega (arith, true .count-full (ltb-true most (length (lastReceived yard times v visits end last) + standardSize) e), standard-blocks-count last))
-      (λ e. omega (arith, true .count (ltb-false most (length (lastReceived yard times v visits end last) + standardSize) e), standard-blocks-count last))
-      (decided (isFull (lastReceived yard times v visits end last)))
+      ⊎-elim (λ e. omega (arith, true .count-full (ltb-true (lastRoom yard times v visits end last) (length (lastReceived yard times v visits end last) + standardSize) e), standard-blocks-count ipv4-sound last))
+      (λ e. omega (arith, true .count (ltb-false (lastRoom yard times v visits end last) (length (lastReceived yard times v visits end last) + standardSize) e), standard-blocks-count ipv4-sound last))
+      (decided (isFull ipv4 (lastRoom yard times v visits end last) (lastReceived yard times v visits end last)))
 
   pub answer-tells : AnswerTells yard times v visits end last output′ answer′
   answer-tells =
       let given = subst (λ (t : Told). HandsWalk t output answer number output′ answer′) tells hands in
-      let read = read-back answer room end (length visits) (standardCount last) (length last) (⊎-elim (λ e. omega arith) (λ e. ⊎-elim (λ f. omega arith) (λ f. omega arith) e) (true .ends)) (omega (arith, true .by-room)) (omega (arith, few-blocks, true .by-room)) (omega (arith, true .by-size)) in
+      let read = read-back answer room end (length visits) (standardCount ipv4 last) (length last) (⊎-elim (λ e. omega arith) (λ e. ⊎-elim (λ f. omega arith) (λ f. omega arith) e) (true .ends)) (omega (arith, true .by-room)) (omega (arith, few-blocks, true .by-room)) (omega (arith, true .by-size)) in
       let out = given .ends room .1 in
       let bytes = given .answers room comes-home in
       record {

@@ -8,9 +8,9 @@ use Rattle.clock.specs.Unix.{unixOf}
 use Rattle.clock.specs.Readings.{afterBy, issuesBy}
 use Rattle.block.specs.Sum.{carried, sumFrom, sumOk}
 use Rattle.block.specs.Block.{frameOk}
-use Rattle.entry.specs.Prefix.{hosts, samePrefix, zeroPast}
-use Rattle.entry.specs.Interface.{interfaceAt, interfaceOk}
-use Rattle.entry.specs.Route.{routeAt, routeOk}
+use Rattle.prefix.specs.Prefix.{hosts, samePrefix, zeroPast}
+use Rattle.interface.specs.Interface.{interfaceAt, interfaceOk}
+use Rattle.route_entry.specs.Route.{routeAt, routeOk}
 use Rattle.sheet.specs.Every.{every, listed}
 use Rattle.sheet.specs.Rules.{blockOk}
 use Rattle.sheet.specs.Sheet.{interfaceBlocksIn, interfaceBlocks, entriesIn, interfacesIn, routesIn, blockOkAt, validSheet, counted, layoutOf}
@@ -28,6 +28,7 @@ use Rattle.recent.specs.Entries.{empty, firstEntries, someIsOf, seenIn, entered
 use Rattle.drops.specs.Arrival.{routeFor, lastHopFor}
 use Rattle.drops.specs.Drop.{lendingRows, deliveryRows, routeRows, table}
 use Rattle.engine.specs.View.{incomingFor, viewWith}
+use Rattle.engine.specs.Room.{roomWith}
 use Rattle.engine.specs.Answer.{longerMessage, longerAnswer, sentBy}
 use Rattle.engine.specs.Step.{recentAfter, stepOf}
 use Rattle.yard.specs.Yard.{sheetAt, yardOk, lowestFrom, holderIn}
@@ -36,8 +37,8 @@ use Rattle.text.specs.Ascii.{ascii}
 use Rattle.text.specs.Input.{headOf, visitOf, timesOf, walkIn, walkFor}
 use Rattle.text.specs.Text.{decimal, dotted, addresses, codeText, lineOf, linesOf, endText, firstLine, walkText, textOf}
 use Rattle.demands.specs.Walk.{blank}
-use Rattle.demands.specs.Example.{sheetBlockBytes, twoRouters, queryFor, traced, paperInput, paperText}
+use Rattle.demands.specs.Example.{linkedRouters, standardsOf, requestWith, tracedIn, sheetBlockBytes, twoRouters, queryFor, traced, paperInput, paperText}
 
 unfoldable pub opened : ℕ
-unfolding be bytes splice allZero byFirst timeFor startOf advanceOf unixOf afterBy issuesBy carried sumFrom sumOk frameOk hosts samePrefix zeroPast interfaceAt interfaceOk routeAt routeOk every listed blockOk interfaceBlocksIn interfaceBlocks entriesIn interfacesIn routesIn blockOkAt validSheet counted layoutOf interfaceOf routeOf interfacesOf routesOf prohibitedOf holderFrom holderOf servesBoth servesGroup servesSource longer longestBy orElse whichRoute reaches someReaches properLastHop codes filledOf blockOf endsTrace blockBytes noteBytes headerOf fitsIn begins blocksBy blocksFrom blocksOf totalSize standardPlaces lastOr standards blocksEnd standardFirst fillsMessage rightForm standardBlocks headerRows messageRows wellFormed empty firstEntries someIsOf seenIn enteredIn routeFor lastHopFor lendingRows deliveryRows routeRows table incomingFor viewWith longerMessage longerAnswer sentBy recentAfter stepOf sheetAt yardOk lowestFrom holderIn sentFor endOf walkBy walkFrom walkRows walkOf ascii headOf visitOf timesOf walkIn walkFor decimal dotted addresses codeText lineOf linesOf endText firstLine walkText textOf blank sheetBlockBytes twoRouters queryFor traced paperInput paperText
+unfolding be bytes splice allZero byFirst timeFor startOf advanceOf unixOf afterBy issuesBy carried sumFrom sumOk frameOk hosts samePrefix zeroPast interfaceAt interfaceOk routeAt routeOk every listed blockOk interfaceBlocksIn interfaceBlocks entriesIn interfacesIn routesIn blockOkAt validSheet counted layoutOf interfaceOf routeOf interfacesOf routesOf prohibitedOf holderFrom holderOf servesBoth servesGroup servesSource longer longestBy orElse whichRoute reaches someReaches properLastHop codes filledOf blockOf endsTrace blockBytes noteBytes headerOf fitsIn begins blocksBy blocksFrom blocksOf totalSize standardPlaces lastOr standards blocksEnd standardFirst fillsMessage rightForm standardBlocks headerRows messageRows wellFormed empty firstEntries someIsOf seenIn enteredIn routeFor lastHopFor lendingRows deliveryRows routeRows table incomingFor viewWith roomWith longerMessage longerAnswer sentBy recentAfter stepOf sheetAt yardOk lowestFrom holderIn sentFor endOf walkBy walkFrom walkRows walkOf ascii headOf visitOf timesOf walkIn walkFor decimal dotted addresses codeText lineOf linesOf endText firstLine walkText textOf blank sheetBlockBytes linkedRouters twoRouters queryFor standardsOf requestWith tracedIn traced paperInput paperText
 opened = 0

@@ -23,12 +23,12 @@ use Rattle.message.specs.Format.{most, reply, standardSize, noteSize}
 use Rattle.message.specs.Header.{headerOf, retyped}
 use Rattle.message.specs.Blocks.{standardBlocks, rightForm}
 use Rattle.message.specs.Room.{Full, HasRoom}
-use Rattle.message.proofs.Laws.{Accepted, full-has-standard, sent-length, sent-header, sent-form, coded-length, coded-header, coded-form}
+use Rattle.message.proofs.Laws.{Accepted, no-room-has-standard, sent-length, sent-header, sent-form, coded-length, coded-header, coded-form}
 use Rattle.drops.specs.Arrival.{Arrival}
 use Rattle.drops.proofs.Laws.{taken}
 use Rattle.engine.specs.Answer.{Sent, sentHome, fullMessage, longerMessage, sentBy}
 use Rattle.engine.specs.Step.{stepOf}
-use Rattle.engine.proofs.Laws.{sent-cases, longer-as, block-standard}
+use Rattle.engine.proofs.Laws.{sent-cases, longer-as, room-most, taken-room}
 use Rattle.reply.specs.declared.Standard.{Standard}
 use Rattle.reply.specs.declared.Handed.{Handed}
 use Rattle.reply.specs.declared.Reader.{Reader}
@@ -39,41 +39,47 @@ use Rattle.reply.proofs.Laws.{Known, known-readable, readable-blocks, reads-all
 use Rattle.yard.specs.Walk.{Visit, notSent, rowsFor, sentFor, sentAt, walkRows}
 use Rattle.yard.specs.Yard.{sheetAt}
 use Rattle.demands.specs.Engine.{Call, view, rows}
-use Rattle.demands.specs.Walk.{callAt, sent, did, Run, stays, group, nobody, goes, nth, lastReceived, Truth}
+use Rattle.demands.specs.Walk.{callAt, sent, did, Run, stays, group, nobody, goes, nth, lastReceived, lastRoom, Truth}
 use Rattle.demands.specs.Read.{ReadTruth, BlockFits, Says}
 use Rattle.demands.proofs.EngineMet.{product-block}
 use Rattle.demands.proofs.WalkMet.{blank-length, mapped-at, as-sent, walk-meets}
+use Rattle.format.specs.Sizes.{ipv4, ipv4-sound, leastRoom, outputSize}
+use Rattle.response.proofs.Laws.{ipv4-writes}
+use Rattle.engine.specs.Room.{roomFor}
 
 -- a Reply by an accepted message's header
-reply-known : (m s : List ℕ) → Accepted m → headerOf s ≡ retyped reply (headerOf m) → length m ≤ length s → length s ≤ most → rightForm s ≡ true → Known s
+reply-known : (m s : List ℕ) → Accepted ipv4 m → headerOf s ≡ retyped reply (headerOf m) → length m ≤ length s → length s ≤ most → rightForm ipv4 s ≡ true → Known s
 reply-known m s a h low high form = record { low = omega (arith, a .low); high = high; kind = rw h; header = rw h (a .header); form = form }
 
 -- what is sent home for an accepted message can be read
-module _ (a : Arrival) (time : ℕ) (sheet : List ℕ) (accepts : Accepted (a .message)) where
+module _ (a : Arrival) (time : ℕ) (sheet : List ℕ) (accepts : Accepted ipv4 (a .message)) (link : leastRoom ipv4 ≤ roomFor ipv4 a sheet) where
   abbrev m : List ℕ
   m = a .message
 
-  full-readable : Full m → Readable (fullMessage m)
-  full-readable h =
-      let some = full-has-standard m accepts h in
-      let long = coded-length m accepts some reply codeNoSpace in
-      known-readable (fullMessage m)
-      (reply-known m (fullMessage m) accepts (coded-header m accepts some reply codeNoSpace) (omega (arith, long)) (omega (arith, long, accepts .high))
-      (coded-form m accepts some reply codeNoSpace (λ e. omega arith)))
+  abbrev room : ℕ
+  room = roomFor ipv4 a sheet
 
-  longer-readable : (b : Block) → HasRoom m → Readable (longerMessage reply m b)
-  longer-readable b room =
+  full-readable : Full ipv4 room m → Readable (fullMessage ipv4 m)
+  full-readable h =
+      let some = no-room-has-standard ipv4-sound m accepts room link h in
+      let long = coded-length ipv4-sound m accepts some reply codeNoSpace in
+      known-readable (fullMessage ipv4 m)
+      (reply-known m (fullMessage ipv4 m) accepts (coded-header ipv4-sound m accepts some reply codeNoSpace) (omega (arith, long)) (omega (arith, long, accepts .high))
+      (coded-form ipv4-sound m accepts some reply codeNoSpace (λ e. omega arith)))
+
+  longer-readable : (b : Block) → HasRoom ipv4 room m → Readable (longerMessage reply m b)
+  longer-readable b fits =
       let same = longer-as reply m b (omega (arith, accepts .low)) in
-      let s = block-standard b in
-      let long = sent-length m accepts (blockBytes b) s reply in
+      let s = ipv4-writes .standard b in
+      let long = sent-length ipv4-sound m accepts (blockBytes b) s reply in
       rw same
       (known-readable _
-      (reply-known m _ accepts (sent-header m accepts (blockBytes b) s reply) (omega (arith, long)) (omega (arith, long))
-      (sent-form m accepts (blockBytes b) s reply (λ e. omega arith))))
+      (reply-known m _ accepts (sent-header ipv4-sound m accepts (blockBytes b) s reply) (omega (arith, long)) (omega (arith, long, room-most ipv4 a sheet))
+      (sent-form ipv4-sound m accepts (blockBytes b) s reply (λ e. omega arith))))
 
-  pub home-readable : sentBy a time sheet .answer ≡ sentHome → Readable (sentBy a time sheet .message)
+  pub home-readable : sentBy ipv4 a time sheet .answer ≡ sentHome → Readable (sentBy ipv4 a time sheet .message)
   home-readable =
-      sent-cases a time sheet (λ (s : Sent). s .answer ≡ sentHome → Readable (s .message)) (λ h _. full-readable h) (λ room e _. longer-readable _ room)
+      sent-cases ipv4 a time sheet (λ (s : Sent). s .answer ≡ sentHome → Readable (s .message)) (λ h _. full-readable h) (λ fits e _. longer-readable _ fits)
       (λ room e o. absurd (omega arith))
 
 -- so does a walk's last message, where it is a Reply: no router on its way drops what it receives
@@ -81,19 +87,20 @@ module _ (yard times : List ℕ) where
   abbrev NoneDrops : Visit → List Visit → Type 0
   NoneDrops w vs = (k : ℕ) → k < length vs → NoneApplies (rows (callAt yard times (getD vs k w)))
 
-  stays-readable : (v : Visit) → NoneApplies (rows (callAt yard times v)) → did stepOf yard times v .answer ≡ sentHome → Readable (sent (did stepOf yard times v))
+  stays-readable : (v : Visit) → NoneApplies (rows (callAt yard times v)) → did (stepOf ipv4) yard times v .answer ≡ sentHome → Readable (sent (did (stepOf ipv4) yard times v))
   unfolding sentFor
   stays-readable v none home =
       let sheet = sheetAt yard (v .router) in
       let time : ℕ = getD times (v .router) 0 in
-      let accepts : NoneApplies (rowsFor sheet (v .arrival)) = rw (blank-length most, blank-length noteSize) at none in
-      let is : sentAt yard times v ≡ sentBy (v .arrival) time sheet = none-is notSent (sentBy (v .arrival) time sheet) (rowsFor sheet (v .arrival)) accepts in
+      let accepts : NoneApplies (rowsFor ipv4 sheet (v .arrival)) = rw (blank-length outputSize, blank-length noteSize) at none in
+      let is : sentAt ipv4 yard times v ≡ sentBy ipv4 (v .arrival) time sheet = none-is notSent (sentBy ipv4 (v .arrival) time sheet) (rowsFor ipv4 sheet (v .arrival)) accepts in
       let s = as-sent yard times v in
+      let t = taken ipv4-sound (v .arrival) sheet empty outputSize noteSize accepts in
       rw (s .sends, is)
-      (home-readable (v .arrival) time sheet (taken (v .arrival) sheet empty most noteSize accepts .message)
+      (home-readable (v .arrival) time sheet (t .message) (taken-room ipv4-sound (v .arrival) sheet empty outputSize noteSize t)
       (ap (λ (x : Sent). x .answer) (sym is) ∙ sym (s .answer) ∙ home))
 
-  run-readable : {v : Visit} {vs : List Visit} {end : ℕ} {last : List ℕ} (w : Visit) → Run stepOf yard times v vs end last → NoneDrops w vs → end ≡ sentHome
+  run-readable : {v : Visit} {vs : List Visit} {end : ℕ} {last : List ℕ} (w : Visit) → Run (stepOf ipv4) yard times v vs end last → NoneDrops w vs → end ≡ sentHome
       → Readable last
   run-readable w (stays {v = v} off) none home = stays-readable v (none 0 (omega arith)) home
   run-readable w (group on g) none home = absurd (omega arith)
@@ -102,13 +109,13 @@ module _ (yard times : List ℕ) where
 
 -- what is read of a walk's Reply is the truth
 module _ (yard times : List ℕ) (v : Visit) (visits : List Visit) (end : ℕ) (last : List ℕ) (t : Truth yard times v visits end last) where
-  long : length (standardsIn last) ≡ length (standardBlocks last)
+  long : length (standardsIn last) ≡ length (standardBlocks ipv4 last)
   unfolding standardsIn
-  long = length-map (standardBlocks last) standardOf
+  long = length-map (standardBlocks ipv4 last) standardOf
 
-  at : (k : ℕ) → k < length (standardsIn last) → getD (standardsIn last) k noStandard ≡ standardOf (getD (standardBlocks last) k [])
+  at : (k : ℕ) → k < length (standardsIn last) → getD (standardsIn last) k noStandard ≡ standardOf (getD (standardBlocks ipv4 last) k [])
   unfolding standardsIn
-  at k h = mapped-at standardOf (standardBlocks last) k [] noStandard (rw long at h)
+  at k h = mapped-at standardOf (standardBlocks ipv4 last) k [] noStandard (rw long at h)
 
   truth-read : ReadTruth yard times v visits end last (standardsIn last)
   truth-read =
@@ -121,8 +128,8 @@ module _ (yard times : List ℕ) (v : Visit) (visits : List Visit) (end : ℕ) (
       }
 
 -- of the product's walk, and of a reader of its Reply that is called often enough
-module _ (yard times : List ℕ) (v : Visit) (output : List ℕ) (visits : List Visit) (last : List ℕ) (none : NoneApplies (walkRows yard times v (length output)))
-    (accepts : NoneApplies (rows (callAt yard times v))) (r : Run stepOf yard times v visits sentHome last) where
+module _ (yard times : List ℕ) (v : Visit) (output : List ℕ) (visits : List Visit) (last : List ℕ) (none : NoneApplies (walkRows ipv4 yard times v (length output)))
+    (accepts : NoneApplies (rows (callAt yard times v))) (r : Run (stepOf ipv4) yard times v visits sentHome last) where
   truth : Truth yard times v visits sentHome last
   truth = walk-meets yard times v output .tells-truth visits sentHome last none accepts r
 
@@ -137,7 +144,7 @@ module _ (yard times : List ℕ) (v : Visit) (output : List ℕ) (visits : List 
       ⊎-elim
       (λ e. omega (arith, t .count (leb-true _ _ e)))
       (λ e. omega (arith, t .count-full (leb-false _ _ e)))
-      (decided (leb (length m + standardSize) most))
+      (decided (leb (length m + standardSize) (lastRoom yard times v visits sentHome last)))
 
   pub reading-true : (message : RefT (List ℕ)) (reader left : Reader) (hs : List Handed) → now message ≡ last → Opens message reader → Calls reader hs left
       → length visits ≤ length hs → ReadTruth yard times v visits sentHome last (blocksOut hs)
@@ -188,19 +195,22 @@ module _ (yard times : List ℕ) (v : Visit) (visits : List Visit) (end : ℕ) (
   abbrev got : List ℕ
   got = lastReceived yard times v visits end last
 
+  abbrev left : ℕ
+  left = lastRoom yard times v visits end last
+
   abbrev call : ℕ → Call
   call k = callAt yard times (nth yard times v visits end last k)
 
   abbrev due : ℕ → Block
   due k = blockOf (view (call k))
 
-  same-room : HasRoom got → xs ≡ ys
-  same-room room =
-      let long : length xs ≡ length ys = x .count room ∙ sym (y .count room) in
+  same-room : HasRoom ipv4 left got → xs ≡ ys
+  same-room fits =
+      let long : length xs ≡ length ys = x .count fits ∙ sym (y .count fits) in
       same-lists xs ys long
-      (λ k h. let is = product-block (call k) in x .block k (due k) is room h ∙ sym (y .block k (due k) is room (omega arith)))
+      (λ k h. let is = product-block (call k) in x .block k (due k) is fits h ∙ sym (y .block k (due k) is fits (omega arith)))
 
-  same-full : Full got → xs ≡ ys
+  same-full : Full ipv4 left got → xs ≡ ys
   same-full full =
       let long : length xs ≡ length ys = omega (arith, x .count-full full, y .count-full full) in
       same-lists xs ys long
@@ -215,4 +225,4 @@ module _ (yard times : List ℕ) (v : Visit) (visits : List Visit) (end : ℕ) (
 
   pub one-reading : xs ≡ ys
   one-reading =
-      ⊎-elim (λ e. same-room (leb-true _ _ e)) (λ e. same-full (leb-false _ _ e)) (decided (leb (length got + standardSize) most))
+      ⊎-elim (λ e. same-room (leb-true _ _ e)) (λ e. same-full (leb-false _ _ e)) (decided (leb (length got + standardSize) left))

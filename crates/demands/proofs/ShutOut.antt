@@ -1,6 +1,7 @@
 -- Wrong programs that the demands shut out. Each is refuted by what it would do with an input or two, which the checker computes:
 -- P1's Query and its like at router 0, the walks of P1, P2 and P4, clocks 10 and 2 units ahead and one at its end.
 use Prim.Native.Nat.{ℕ, suc, _+_, _-_, _/_, _≤_, _<_, max}
+use mathlib.Core.Bool.{false}
 use mathlib.Core.List.{List, []}
 use mathlib.Core.Path.{_≡_, refl, sym, ap, _∙_}
 use native.Mathlib.Omega.{arith}
@@ -22,13 +23,14 @@ use Rattle.engine.specs.Answer.{sentOn, sentHome}
 use Rattle.engine.specs.Step.{Outcome, outcome, stepOf}
 use Rattle.yard.specs.Yard.{routersIn}
 use Rattle.yard.specs.Walk.{Visit}
-use Rattle.demands.specs.Engine.{Engine, Call, run, message, rows, EngineMeets}
+use Rattle.demands.specs.Engine.{Engine, Call, run, message, here, room, rows, ends, EngineMeets}
 use Rattle.demands.specs.Clock.{Start, Advance, DemandClock}
 use Rattle.demands.specs.Walk.{Told, Walker, callAt, blank, WalkMeets}
-use Rattle.demands.specs.Example.{address, twoRouters, twoTimes, queryFor, paperQuery, startWith}
+use Rattle.demands.specs.Example.{address, linkedRouters, requestWith, twoRouters, twoTimes, queryFor, paperQuery, startWith}
 use Rattle.demands.proofs.EngineMet.{no-other-engine}
 use Rattle.demands.proofs.WalkMet.{walkTold, no-other-walk}
 use Rattle.demands.proofs.Opened.{opened}
+use Rattle.format.specs.Sizes.{ipv4, roomOf, outputSize}
 
 -- a Query at router 0 of the paper's yard
 unfoldable asked : List ℕ → Call
@@ -47,6 +49,10 @@ stranger = asked (queryFor 10 (address 203 0 113 9) (address 10 0 0 1))
 unfoldable lost : Call
 lost = asked (queryFor 10 (address 10 0 0 9) (address 10 0 0 1))
 
+-- a Request of 540 bytes whose way on has MTU 576, and comes in by 1500
+unfoldable narrow : Call
+narrow = callAt (linkedRouters 1500 576 0) twoTimes (requestWith 10)
+
 -- the code of this router's block in what was sent
 abbrev codeIn : Call → Outcome → ℕ
 codeIn c o = byteAt (o .output) (length (message c) + codeOffset)
@@ -60,25 +66,38 @@ accepted : (c : Call) → firstOf (rows c) ≡ 0 → NoneApplies (rows c)
 unfolding opened
 accepted c = zero-none (rows c) refl
 
-roomy : HasRoom (message stranger) × HasRoom (message lost)
+roomy : HasRoom ipv4 (room stranger) (message stranger) × HasRoom ipv4 (room lost) (message lost)
 unfolding opened asked stranger lost
 roomy = (lit≤ tt, lit≤ tt)
 
+-- so is the narrow one, which does not end there: its way on has no room, the way in and 1472 bytes have
+narrow-passes : (firstOf (rows narrow) ≡ 0) × (ends narrow ≡ false)
+unfolding opened narrow
+narrow-passes = (refl, refl)
+
+narrow-roomy : HasRoom ipv4 (ipv4 .most) (message narrow) × HasRoom ipv4 (roomOf ipv4 (here narrow .mtu)) (message narrow)
+unfolding opened narrow
+narrow-roomy = (lit≤ tt, lit≤ tt)
+
+narrow-home : run (stepOf ipv4) narrow .answer ≡ sentHome
+unfolding opened narrow
+narrow-home = refl
+
 -- what the product does: its answers, the type of what it sends, and the code of the last two
-answers : (run stepOf ten .answer ≡ sentOn) × (run stepOf one .answer ≡ sentHome) × (run stepOf stranger .answer ≡ sentOn) × (run stepOf lost .answer ≡ sentHome)
+answers : (run (stepOf ipv4) ten .answer ≡ sentOn) × (run (stepOf ipv4) one .answer ≡ sentHome) × (run (stepOf ipv4) stranger .answer ≡ sentOn) × (run (stepOf ipv4) lost .answer ≡ sentHome)
 unfolding opened asked ten one stranger lost
 answers = (refl, refl, refl, refl)
 
-types : (byteAt (run stepOf ten .output) 0 ≡ 2) × (byteAt (run stepOf one .output) 0 ≡ 3)
+types : (byteAt (run (stepOf ipv4) ten .output) 0 ≡ 2) × (byteAt (run (stepOf ipv4) one .output) 0 ≡ 3)
 unfolding opened asked ten one
 types = (refl, refl)
 
 -- where it sends P1's Request and P4's Reply to: upstream, and the client
-sent-to : (be32 (run stepOf ten .note) 2 ≡ address 198 51 100 2) × (be32 (run stepOf one .note) 2 ≡ address 192 0 2 50)
+sent-to : (be32 (run (stepOf ipv4) ten .note) 2 ≡ address 198 51 100 2) × (be32 (run (stepOf ipv4) one .note) 2 ≡ address 192 0 2 50)
 unfolding opened asked ten one
 sent-to = (refl, refl)
 
-shown : codeIn stranger (run stepOf stranger) ≡ codeIn lost (run stepOf lost)
+shown : codeIn stranger (run (stepOf ipv4) stranger) ≡ codeIn lost (run (stepOf ipv4) lost)
 unfolding opened asked stranger lost
 shown = refl
 
@@ -92,13 +111,13 @@ unfolding asked ten one
 lent-alike = refl
 
 module _ (engine : Engine) (meets : EngineMeets engine) where
-  same : (c : Call) → run engine c ≡ run stepOf c
+  same : (c : Call) → run engine c ≡ run (stepOf ipv4) c
   same = no-other-engine engine meets
 
-  answer : (c : Call) → run engine c .answer ≡ run stepOf c .answer
+  answer : (c : Call) → run engine c .answer ≡ run (stepOf ipv4) c .answer
   answer c = ap (λ (o : Outcome). o .answer) (same c)
 
-  type : (c : Call) → byteAt (run engine c .output) 0 ≡ byteAt (run stepOf c .output) 0
+  type : (c : Call) → byteAt (run engine c .output) 0 ≡ byteAt (run (stepOf ipv4) c .output) 0
   type c = ap (λ (o : Outcome). byteAt (o .output) 0) (same c)
 
   abbrev front : List ℕ → ℕ
@@ -125,17 +144,26 @@ module _ (engine : Engine) (meets : EngineMeets engine) where
   -- one that sends all it sends to one place
   pub sends-astray : (place : ℕ) → ((c : Call) → NoneApplies (rows c) → be32 (run engine c .note) 2 ≡ place) → ⊥
   sends-astray place wrong =
-      let goes : (c : Call) → be32 (run engine c .note) 2 ≡ be32 (run stepOf c .note) 2 = λ c. ap (λ (o : Outcome). be32 (o .note) 2) (same c) in
+      let goes : (c : Call) → be32 (run engine c .note) 2 ≡ be32 (run (stepOf ipv4) c .note) 2 = λ c. ap (λ (o : Outcome). be32 (o .note) 2) (same c) in
       omega (arith, wrong ten (accepted ten (passes .0)), wrong one (accepted one (passes .1)), goes ten, goes one, sent-to)
 
   -- one that ends on the code shown, by whatever rule
-  pub ends-on-the-code : (rule : ℕ → ℕ) → ((c : Call) → NoneApplies (rows c) → HasRoom (message c) → run engine c .answer ≡ rule (codeIn c (run engine c))) → ⊥
+  pub ends-on-the-code : (rule : ℕ → ℕ) → ((c : Call) → NoneApplies (rows c) → HasRoom ipv4 (room c) (message c) → run engine c .answer ≡ rule (codeIn c (run engine c))) → ⊥
   ends-on-the-code rule wrong =
-      let code : (c : Call) → codeIn c (run engine c) ≡ codeIn c (run stepOf c) = λ c. ap (codeIn c) (same c) in
+      let code : (c : Call) → codeIn c (run engine c) ≡ codeIn c (run (stepOf ipv4) c) = λ c. ap (codeIn c) (same c) in
       let one-rule : rule (codeIn stranger (run engine stranger)) ≡ rule (codeIn lost (run engine lost)) =
       ap rule (code stranger ∙ shown ∙ sym (code lost)) in
       omega
       (arith, wrong stranger (accepted stranger (passes .2)) (roomy .0), wrong lost (accepted lost (passes .3)) (roomy .1), answer stranger, answer lost, answers)
+
+  -- one that has 1472 bytes of room on every link, and one that has what the link leaves by which the message came
+  pub has-room-of-its-own : ((c : Call) → NoneApplies (rows c) → HasRoom ipv4 (ipv4 .most) (message c) → ends c ≡ false → run engine c .answer ≡ sentOn) → ⊥
+  has-room-of-its-own wrong =
+      omega (arith, wrong narrow (accepted narrow (narrow-passes .0)) (narrow-roomy .0) (narrow-passes .1), answer narrow, narrow-home)
+
+  pub has-room-behind-it : ((c : Call) → NoneApplies (rows c) → HasRoom ipv4 (roomOf ipv4 (here c .mtu)) (message c) → ends c ≡ false → run engine c .answer ≡ sentOn) → ⊥
+  has-room-behind-it wrong =
+      omega (arith, wrong narrow (accepted narrow (narrow-passes .0)) (narrow-roomy .1) (narrow-passes .1), answer narrow, narrow-home)
 
 -- such engines as they would be written: by 3; a copy sent on; 101 and nothing written
 pub drops-by-3 : EngineMeets (λ a time sheet recent output note. outcome dropSheet recent output note) → ⊥
@@ -149,14 +177,14 @@ answers-alone meets = writes-nothing _ meets (λ c none. refl)
 
 -- the walks of P1, P4 and P2
 abbrev at : Walker → ℕ → ℕ → Told
-at walk upstream hops = walk (twoRouters upstream) twoTimes (startWith (paperQuery hops)) (blank most)
+at walk upstream hops = walk (twoRouters upstream) twoTimes (startWith (paperQuery hops)) (blank outputSize)
 
 abbrev loop : ℕ
 loop = address 198 51 100 1
 
 -- the blocks that a walk tells of
 abbrev toldBlocks : Told → List (List ℕ)
-toldBlocks t = standardBlocks (take (t .answer .length) (t .output))
+toldBlocks t = standardBlocks ipv4 (take (t .answer .length) (t .output))
 
 steps : (at walkTold 0 10 .answer .steps ≡ 2) × (at walkTold 0 1 .answer .steps ≡ 1) × (at walkTold loop 10 .answer .steps ≡ 10)
 unfolding opened
@@ -174,7 +202,7 @@ two = refl
 
 module _ (engine : Engine) (walk : Walker) (meets : EngineMeets engine) (walks : WalkMeets engine walk) where
   tells : (upstream hops : ℕ) → at walk upstream hops ≡ at walkTold upstream hops
-  tells upstream hops = no-other-walk engine walk meets walks (twoRouters upstream) twoTimes (startWith (paperQuery hops)) (blank most)
+  tells upstream hops = no-other-walk engine walk meets walks (twoRouters upstream) twoTimes (startWith (paperQuery hops)) (blank outputSize)
 
   steps-of : (upstream hops : ℕ) → at walk upstream hops .answer .steps ≡ at walkTold upstream hops .answer .steps
   steps-of upstream hops = ap (λ (t : Told). t .answer .steps) (tells upstream hops)
@@ -185,23 +213,23 @@ module _ (engine : Engine) (walk : Walker) (meets : EngineMeets engine) (walks :
   copies-its-block wrong =
       let is : toldBlocks (at walk 0 10) ≡ toldBlocks (at walkTold 0 10) = ap toldBlocks (tells 0 10) in
       let there : 1 < length (toldBlocks (at walk 0 10)) = rw is (omega (arith, blocks .0)) in
-      let alike = rw is at (wrong (twoRouters 0) twoTimes (startWith (paperQuery 10)) (blank most) 0 there) in
+      let alike = rw is at (wrong (twoRouters 0) twoTimes (startWith (paperQuery 10)) (blank outputSize) 0 there) in
       omega (arith, ap (λ (b : List ℕ). be32 b 12) alike, blocks .1, blocks .2)
 
   -- one that stops at its first router
   pub stops-at-the-first : ((yard times : List ℕ) (v : Visit) (output : List ℕ) → walk yard times v output .answer .steps ≤ 1) → ⊥
-  stops-at-the-first wrong = omega (arith, wrong (twoRouters 0) twoTimes (startWith (paperQuery 10)) (blank most), steps-of 0 10, steps .0)
+  stops-at-the-first wrong = omega (arith, wrong (twoRouters 0) twoTimes (startWith (paperQuery 10)) (blank outputSize), steps-of 0 10, steps .0)
 
   -- one with an invented number of steps
   pub invents-its-steps : (k : ℕ) → ((yard times : List ℕ) (v : Visit) (output : List ℕ) → walk yard times v output .answer .steps ≡ k) → ⊥
   invents-its-steps k wrong =
       omega
-      (arith, wrong (twoRouters 0) twoTimes (startWith (paperQuery 10)) (blank most), wrong (twoRouters 0) twoTimes (startWith (paperQuery 1)) (blank most), steps-of 0 10, steps-of 0 1, steps)
+      (arith, wrong (twoRouters 0) twoTimes (startWith (paperQuery 10)) (blank outputSize), wrong (twoRouters 0) twoTimes (startWith (paperQuery 1)) (blank outputSize), steps-of 0 10, steps-of 0 1, steps)
 
   -- one that refuses a second visit, and so has no more steps than there are routers
   pub refuses-a-second-visit : ((yard times : List ℕ) (v : Visit) (output : List ℕ) → walk yard times v output .answer .steps ≤ routersIn yard) → ⊥
   refuses-a-second-visit wrong =
-      omega (arith, wrong (twoRouters loop) twoTimes (startWith (paperQuery 10)) (blank most), steps-of loop 10, steps, two)
+      omega (arith, wrong (twoRouters loop) twoTimes (startWith (paperQuery 10)) (blank outputSize), steps-of loop 10, steps, two)
 
 -- what a clock does that meets its demand, in some calls, and the clocks that do otherwise
 module _ (start : Start) (advance : Advance) (d : DemandClock start advance) where

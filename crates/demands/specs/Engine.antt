@@ -1,19 +1,21 @@
--- Demands 1 and 2 of document 01, of ANY engine: which calls it drops and by which number, and what it answers to all others, byte
--- for byte.
+-- Demands 1 and 2 of document 01, with the room of document 02 (M-102), of ANY engine: which calls it drops and by which number,
+-- and what it answers to all others, byte for byte.
 use Prim.Native.Nat.{ℕ, _+_}
 use mathlib.Core.Bool.{Bool, true, false, cond}
 use mathlib.Core.List.{List, _++_}
 use mathlib.Core.Logic.{_⊎_}
 use mathlib.Core.Path.{_≡_}
+use lib.Dec.{eqb}
 use lib.ListN.{length, set}
 use Rattle.rows.specs.Rows.{Row, NoneApplies, IsFirst, Noted}
 use Rattle.wire.specs.Parts.{splice}
 use Rattle.recent.specs.Entries.{enteredIn}
-use Rattle.entry.specs.declared.interface.Interface.{Interface}
-use Rattle.entry.specs.declared.route.Route.{Route}
+use Rattle.interface.specs.declared.Interface.{Interface}
+use Rattle.route_entry.specs.Route.{unknown}
+use Rattle.route_entry.specs.declared.Route.{Route}
 use Rattle.sheet.specs.Tables.{interfaceOf, prohibitedOf}
 use Rattle.route.specs.declared.Chosen.{Chosen}
-use Rattle.route.specs.declared.Chosen.the-variants.{Found}
+use Rattle.route.specs.declared.Chosen.the-variants.{Found, Nothing}
 use Rattle.response.specs.declared.Block.{Block}
 use Rattle.response.specs.declared.Note.{Note}
 use Rattle.response.specs.declared.View.{View}
@@ -31,6 +33,7 @@ use Rattle.drops.specs.Drop.{table}
 use Rattle.engine.specs.View.{incomingFor, viewOf}
 use Rattle.engine.specs.Answer.{sentOn, sentHome, mtracePort, anyInterface}
 use Rattle.engine.specs.Step.{Outcome, outcome}
+use Rattle.format.specs.Sizes.{ipv4, roomOf}
 
 -- an engine: from what arrives, the time, the sheet, and the recent list, output and record lent to it, to its answer and
 -- these three as they are left
@@ -49,8 +52,8 @@ pub record Call : Type 0 where
 abbrev pub run : Engine → Call → Outcome
 run engine c = engine (c .arrival) (c .time) (c .sheet) (c .recent) (c .output) (c .note)
 
--- what a call brings: its message and header, the route for it, the receiving interface, what the router looks at, and the rows of
--- the drop table
+-- what a call brings: its message and header, the route for it, the receiving interface, what the router looks at, the room on the link,
+-- and the rows of the drop table
 module _ (c : Call) where
   abbrev pub message : List ℕ
   message = c .arrival .message
@@ -59,16 +62,25 @@ module _ (c : Call) where
   header = headerOf message
 
   abbrev pub chosen : Chosen
-  chosen = routeFor (c .sheet) header
+  chosen = routeFor ipv4 (c .sheet) header
 
   abbrev pub here : Interface
-  here = interfaceOf (c .sheet) (c .arrival .receiving)
+  here = interfaceOf ipv4 (c .sheet) (c .arrival .receiving)
 
   abbrev pub view : View
-  view = viewOf (c .arrival) (c .time) (c .sheet)
+  view = viewOf ipv4 (c .arrival) (c .time) (c .sheet)
+
+  -- the MTU that counts with a route: that of its incoming interface, or of the receiving one where there is no route or that is unknown
+  abbrev pub mtuBy : Chosen → ℕ
+  mtuBy Nothing = here .mtu
+  mtuBy (Found r) = cond (eqb (r .incoming) unknown) (here .mtu) (interfaceOf ipv4 (c .sheet) (r .incoming) .mtu)
+
+  -- the room on the link: the smaller of 1472 and that MTU less 28
+  abbrev pub room : ℕ
+  room = roomOf ipv4 (mtuBy chosen)
 
   abbrev pub rows : List Row
-  rows = table (c .arrival) (c .sheet) (c .recent) (length (c .output)) (length (c .note))
+  rows = table ipv4 (c .arrival) (c .sheet) (c .recent) (length (c .output)) (length (c .note))
 
 -- 1. Where a row of the table applies, the answer is the number of the first such row, and nothing lent changes; where none
 -- applies it is answered
@@ -89,7 +101,7 @@ module _ (c : Call) where
 
   -- what ends a trace: no route, tracing prohibited, the route is RP, upstream is 0, or the hops used now equal the hops
   abbrev pub ends : Bool
-  ends = endsFor (prohibitedOf (c .sheet)) (hopsUsed (message c) + 1) (header c .hops) (chosen c)
+  ends = endsFor (prohibitedOf (c .sheet)) (hopsUsed ipv4 (message c) + 1) (header c .hops) (chosen c)
 
   -- an accepted Query is written into the recent list; nothing else changes it
   abbrev pub entered : List ℕ
@@ -109,18 +121,18 @@ module _ (c : Call) where
   abbrev pub passedOn : Route → List ℕ → Outcome
   passedOn r m =
       sending sentOn m
-      (record { length = length m; destination = upstreamOf r; port = mtracePort; interface = r .incoming; source = addressOf (incomingFor (c .sheet) (Found r)) })
+      (record { length = length m; destination = upstreamOf r; port = mtracePort; interface = r .incoming; source = addressOf (incomingFor ipv4 (c .sheet) (Found r)) })
 
 -- 2. What no row applies to is answered so
 pub record Demand2 (c : Call) (o : Outcome) : Type 0 where
-  -- no room for a block: a Reply, the message with type 3, and 0x81 as the code of its last type 4 block
-  pub full : NoneApplies (rows c) → Full (message c)
-      → o ≡ replied c (set (set (message c) 0 reply) (lastStandard (message c) + codeOffset) codeNoSpace)
+  -- no room for a block on the link: a Reply, the message with type 3, and 0x81 as the code of its last type 4 block
+  pub full : NoneApplies (rows c) → Full ipv4 (room c) (message c)
+      → o ≡ replied c (set (set (message c) 0 reply) (lastStandard ipv4 (message c) + codeOffset) codeNoSpace)
   -- room, and the trace ends: a Reply, the message with type 3 and this router's block behind it
-  pub home : (b : Block) → NoneApplies (rows c) → HasRoom (message c) → BlockOf c b → ends c ≡ true
+  pub home : (b : Block) → NoneApplies (rows c) → HasRoom ipv4 (room c) (message c) → BlockOf c b → ends c ≡ true
       → o ≡ replied c (set (message c) 0 reply ++ blockBytes b)
   -- room, and it goes on: a Request, the message with type 2 and this router's block behind it
-  pub on : (b : Block) (r : Route) → NoneApplies (rows c) → HasRoom (message c) → BlockOf c b → ends c ≡ false → chosen c ≡ Found r
+  pub on : (b : Block) (r : Route) → NoneApplies (rows c) → HasRoom ipv4 (room c) (message c) → BlockOf c b → ends c ≡ false → chosen c ≡ Found r
       → o ≡ passedOn c r (set (message c) 0 request ++ blockBytes b)
 
 -- an engine meets both in every call

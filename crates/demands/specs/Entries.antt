@@ -16,6 +16,7 @@ use Rattle.servicebough.specs.Answers.{answerSize}
 use Rattle.yard.specs.Walk.{Visit}
 use Rattle.demands.specs.Engine.{Call}
 use Rattle.demands.specs.Walk.{Told, Truth}
+use Rattle.format.specs.Sizes.{ipv4}
 
 -- the call that the arguments of a step make: message, destination, receiving interface, TTL, time, sheet, and what is lent
 abbrev pub stepCall : List ℕ → ℕ → ℕ → ℕ → ℕ → List ℕ → List ℕ → List ℕ → List ℕ → Call
@@ -48,7 +49,7 @@ pub record HandsWalk (t : Told) (output answer : List ℕ) (number : ℕ) (outpu
 pub record AnswerTells (yard times : List ℕ) (v : Visit) (visits : List Visit) (end : ℕ) (last output answer : List ℕ) : Type 0 where
   pub says-end : be32 answer 0 ≡ end
   pub says-steps : be32 answer 4 ≡ length visits
-  pub says-blocks : be32 answer 8 ≡ standardCount last
+  pub says-blocks : be32 answer 8 ≡ standardCount ipv4 last
   pub says-length : be32 answer 12 ≡ length last
   pub sends : take (length last) output ≡ last
   pub truth : Truth yard times v visits end last

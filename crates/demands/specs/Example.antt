@@ -1,22 +1,22 @@
--- The yard and the Query of document 01, "Worked through", in bytes.
-use Prim.Native.Nat.{ℕ, _+_, _*_, _-_}
+-- The yard and the Query of document 01, "Worked through", in bytes; and links of other MTUs (document 02, M-102).
+use Prim.Native.Nat.{ℕ, zero, suc, _+_, _*_, _-_}
 use mathlib.Core.List.{List, [], _∷_, _++_}
-use lib.ListN.{length}
+use lib.ListN.{length, set}
 use Rattle.wire.specs.Numbers.{bytes16, bytes32, bytes64}
 use Rattle.block.specs.Sum.{sumFrom}
-use Rattle.message.specs.Format.{most}
 use Rattle.drops.specs.Arrival.{arrival}
 use Rattle.yard.specs.Walk.{Visit, visit, Walk, walkOf}
 use Rattle.text.specs.Ascii.{ascii}
 use Rattle.demands.specs.Walk.{blank}
+use Rattle.format.specs.Sizes.{ipv4, outputSize}
 
 -- an address by its four octets
 abbrev pub address : ℕ → ℕ → ℕ → ℕ → ℕ
 address a b c d = ((a * 256 + b) * 256 + c) * 256 + d
 
--- a multicast interface of prefix length 24; its counts and its threshold are 0
-abbrev pub interfaceBytes : ℕ → List ℕ
-interfaceBytes at = bytes32 at ++ (24 ∷ 1 ∷ 0 ∷ 0 ∷ []) ++ blank 16
+-- a multicast interface of prefix length 24, with its MTU; its counts and its threshold are 0
+abbrev pub interfaceBytes : ℕ → ℕ → List ℕ
+interfaceBytes mtu at = bytes32 at ++ (24 ∷ 1 ∷ 0 ∷ 0 ∷ []) ++ blank 16 ++ bytes16 mtu ++ bytes16 0
 
 -- the kind 1 route, 203.0.113.0/24 to 232.1.1.1, incoming 1, forwarding to 0, with an upstream
 abbrev pub routeBytes : ℕ → List ℕ
@@ -32,16 +32,20 @@ sheetBlockBytes kind inUse number entries =
     let front = (kind ∷ inUse ∷ 0 ∷ number ∷ []) ++ entries ++ blank (506 - length entries) in
     front ++ bytes16 (65535 - sumFrom 0 front)
 
--- a router: two interfaces and the route
-abbrev pub routerSheet : ℕ → ℕ → ℕ → List ℕ
-routerSheet first second upstream =
-    sheetBlockBytes 1 2 0 (interfaceBytes first ++ interfaceBytes second) ++ sheetBlockBytes 2 1 1 (routeBytes upstream)
+-- a router: two interfaces, each with its MTU, and the route, whose incoming interface is the second
+abbrev pub routerSheet : ℕ → ℕ → ℕ → ℕ → ℕ → List ℕ
+routerSheet near far first second upstream =
+    sheetBlockBytes 1 2 0 (interfaceBytes near first ++ interfaceBytes far second) ++ sheetBlockBytes 2 1 1 (routeBytes upstream)
 
--- routers 0 and 1, the second with an upstream
+-- routers 0 and 1, both with the same two MTUs, the second with an upstream
+unfoldable pub linkedRouters : ℕ → ℕ → ℕ → List ℕ
+linkedRouters near far upstream =
+    routerSheet near far (address 192 0 2 1) (address 198 51 100 1) (address 198 51 100 2)
+    ++ routerSheet near far (address 198 51 100 2) (address 203 0 113 1) upstream
+
+-- the paper's yard: MTU 1500
 unfoldable pub twoRouters : ℕ → List ℕ
-twoRouters upstream =
-    routerSheet (address 192 0 2 1) (address 198 51 100 1) (address 198 51 100 2)
-    ++ routerSheet (address 198 51 100 2) (address 203 0 113 1) upstream
+twoRouters upstream = linkedRouters 1500 1500 upstream
 
 -- router i has time 65536 * i
 abbrev pub twoTimes : List ℕ
@@ -60,9 +64,20 @@ paperQuery hops = queryFor hops (address 203 0 113 9) (address 192 0 2 50)
 abbrev pub startWith : List ℕ → Visit
 startWith m = visit 0 (arrival m (address 192 0 2 1) 0 0)
 
--- its walk
+-- a Request of so many blocks that say no more than that they are of type 4, with 255 hops, from a neighbour on interface 0 of router 0
+unfoldable pub standardsOf : ℕ → List ℕ
+standardsOf zero = []
+standardsOf (suc n) = (4 ∷ 0 ∷ 52 ∷ []) ++ blank 49 ++ standardsOf n
+
+unfoldable pub requestWith : ℕ → Visit
+requestWith blocks = visit 0 (arrival (set (paperQuery 255) 0 2 ++ standardsOf blocks) (address 192 0 2 1) 0 255)
+
+-- the Query's walk through a yard, and through the paper's
+unfoldable pub tracedIn : List ℕ → ℕ → Walk
+tracedIn yard hops = walkOf ipv4 yard twoTimes (startWith (paperQuery hops)) outputSize
+
 unfoldable pub traced : ℕ → ℕ → Walk
-traced upstream hops = walkOf (twoRouters upstream) twoTimes (startWith (paperQuery hops)) most
+traced upstream hops = tracedIn (twoRouters upstream) hops
 
 -- what the program `walk` reads: router 0, interface 0, 192.0.2.1, TTL 0, seven bytes; the Query with 10 hops; the yard
 unfoldable pub paperInput : List ℕ

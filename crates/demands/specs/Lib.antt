@@ -1,4 +1,4 @@
--- The demands of document 01 on any engine, clock and walk, and its worked examples.
+-- The demands of documents 01 and 02 on any engine, clock, walk and reader of Replies, and their worked examples.
 pub mod Engine
 pub mod Clock
 pub mod Walk

@@ -14,25 +14,29 @@ use Rattle.reply.specs.declared.Standard.{Standard}
 use Rattle.reply.specs.Standard.{sBit, standardOf, noStandard}
 use Rattle.yard.specs.Walk.{Visit}
 use Rattle.demands.specs.Engine.{BlockOf}
-use Rattle.demands.specs.Walk.{callAt, nth, lastReceived}
+use Rattle.demands.specs.Walk.{callAt, nth, lastReceived, lastRoom}
+use Rattle.format.specs.Sizes.{ipv4}
 
 -- some blocks tell the truth of a walk's visits
 module _ (yard times : List ℕ) (v : Visit) (visits : List Visit) (end : ℕ) (last : List ℕ) (blocks : List Standard) where
   abbrev got : List ℕ
   got = lastReceived yard times v visits end last
 
+  abbrev room : ℕ
+  room = lastRoom yard times v visits end last
+
   abbrev gives : ℕ → Block → Type 0
   gives k b = BlockOf (callAt yard times (nth yard times v visits end last k)) b
 
   pub record ReadTruth : Type 0 where
     -- one for each router, where the last had room; else for each but the last
-    pub count : HasRoom got → length blocks ≡ length visits
-    pub count-full : Full got → suc (length blocks) ≡ length visits
+    pub count : HasRoom ipv4 room got → length blocks ≡ length visits
+    pub count-full : Full ipv4 room got → suc (length blocks) ≡ length visits
     -- block k is the one that demand 2 gives for the k-th router and the message that it received
-    pub block : (k : ℕ) (b : Block) → gives k b → HasRoom got → k < length blocks → getD blocks k noStandard ≡ standardOf (blockBytes b)
+    pub block : (k : ℕ) (b : Block) → gives k b → HasRoom ipv4 room got → k < length blocks → getD blocks k noStandard ≡ standardOf (blockBytes b)
     -- and so it is where the last had none, but for 0x81 in the last
-    pub block-kept : (k : ℕ) (b : Block) → gives k b → Full got → suc k < length blocks → getD blocks k noStandard ≡ standardOf (blockBytes b)
-    pub block-marked : (k : ℕ) (b : Block) → gives k b → Full got → suc k ≡ length blocks
+    pub block-kept : (k : ℕ) (b : Block) → gives k b → Full ipv4 room got → suc k < length blocks → getD blocks k noStandard ≡ standardOf (blockBytes b)
+    pub block-marked : (k : ℕ) (b : Block) → gives k b → Full ipv4 room got → suc k ≡ length blocks
         → getD blocks k noStandard ≡ standardOf (set (blockBytes b) codeOffset codeNoSpace)
 
 -- a router's block whose numbers fit their fields

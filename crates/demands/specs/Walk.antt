@@ -26,7 +26,8 @@ use Rattle.yard.specs.declared.Walked.{Walked}
 use Rattle.yard.specs.Yard.{sheetAt}
 use Rattle.yard.specs.Walk.{toGroup, nobodyThere, Visit, visit, walkRows}
 use Rattle.yard.specs.Holders.{LowestHolder, NobodyHolds}
-use Rattle.demands.specs.Engine.{Engine, Call, run, rows, BlockOf}
+use Rattle.demands.specs.Engine.{Engine, Call, run, rows, room, BlockOf}
+use Rattle.format.specs.Sizes.{ipv4, outputSize}
 
 -- what a walk answers, and the output as it is left
 pub record Told : Type 0 where
@@ -40,7 +41,7 @@ Walker = List ℕ → List ℕ → Visit → List ℕ → Told
 -- end, steps, blocks and length; the output begins with the last message sent, and its bytes past that stay
 abbrev pub told : ℕ → ℕ → List ℕ → List ℕ → Told
 told end steps last output =
-    record { answer = record { end = end; steps = steps; blocks = standardCount last; length = length last }; output = splice output 0 last }
+    record { answer = record { end = end; steps = steps; blocks = standardCount ipv4 last; length = length last }; output = splice output 0 last }
 
 -- so many zeros
 unfoldable pub blank : ℕ → List ℕ
@@ -54,7 +55,7 @@ callAt yard times v =
       time = getD times (v .router) 0;
       sheet = sheetAt yard (v .router);
       recent = empty;
-      output = blank most;
+      output = blank outputSize;
       note = blank noteSize;
     }
 
@@ -76,11 +77,11 @@ module _ (engine : Engine) (yard times : List ℕ) where
     stays : {v : Visit} → (did v .answer ≡ sentOn → ⊥) → Run v (v ∷ []) (did v .answer) (sent (did v))
     -- 102, a Request sent to a group; 103, to an address that nobody holds
     group : {v : Visit} → did v .answer ≡ sentOn → multicast (to (did v)) ≡ true → Run v (v ∷ []) toGroup (sent (did v))
-    nobody : {v : Visit} → did v .answer ≡ sentOn → multicast (to (did v)) ≡ false → NobodyHolds yard (to (did v))
+    nobody : {v : Visit} → did v .answer ≡ sentOn → multicast (to (did v)) ≡ false → NobodyHolds ipv4 yard (to (did v))
         → Run v (v ∷ []) nobodyThere (sent (did v))
     -- else it goes, TTL 255, to the lowest router and interface holding its destination
     goes : {v : Visit} {later : List Visit} {end : ℕ} {last : List ℕ} (router interface : ℕ) → did v .answer ≡ sentOn
-        → multicast (to (did v)) ≡ false → LowestHolder yard (to (did v)) router interface
+        → multicast (to (did v)) ≡ false → LowestHolder ipv4 yard (to (did v)) router interface
         → Run (visit router (arrival (sent (did v)) (to (did v)) interface nearTtl)) later end last → Run v (v ∷ later) end last
 
 -- what is true of a run from a Query that its first router accepts
@@ -92,6 +93,10 @@ module _ (yard times : List ℕ) (v : Visit) (visits : List Visit) (end : ℕ) (
   abbrev pub lastReceived : List ℕ
   lastReceived = nth (length visits - 1) .arrival .message
 
+  -- the room on its link
+  abbrev pub lastRoom : ℕ
+  lastRoom = room (callAt yard times (nth (length visits - 1)))
+
   pub record Truth : Type 0 where
     -- it ends within the hop number of steps, and within 28, with 101, 102 or 103
     pub by-hops : length visits ≤ headerOf (v .arrival .message) .hops
@@ -102,27 +107,27 @@ module _ (yard times : List ℕ) (v : Visit) (visits : List Visit) (end : ℕ) (
     -- no router drops what it receives
     pub none-drops : (k : ℕ) → k < length visits → NoneApplies (rows (callAt yard times (nth k)))
     -- a block for each router, where the last had room; else for each but the last
-    pub count : HasRoom lastReceived → length (standardBlocks last) ≡ length visits
-    pub count-full : Full lastReceived → suc (length (standardBlocks last)) ≡ length visits
+    pub count : HasRoom ipv4 lastRoom lastReceived → length (standardBlocks ipv4 last) ≡ length visits
+    pub count-full : Full ipv4 lastRoom lastReceived → suc (length (standardBlocks ipv4 last)) ≡ length visits
     -- block k is what demand 2 gives for the k-th router and the message that it received
-    pub block : (k : ℕ) (b : Block) → BlockOf (callAt yard times (nth k)) b → HasRoom lastReceived → k < length (standardBlocks last)
-        → getD (standardBlocks last) k [] ≡ blockBytes b
+    pub block : (k : ℕ) (b : Block) → BlockOf (callAt yard times (nth k)) b → HasRoom ipv4 lastRoom lastReceived → k < length (standardBlocks ipv4 last)
+        → getD (standardBlocks ipv4 last) k [] ≡ blockBytes b
     -- and nobody alters it later, but for 0x81 in the last block by a router without room
-    pub block-kept : (k : ℕ) (b : Block) → BlockOf (callAt yard times (nth k)) b → Full lastReceived → suc k < length (standardBlocks last)
-        → getD (standardBlocks last) k [] ≡ blockBytes b
-    pub block-marked : (k : ℕ) (b : Block) → BlockOf (callAt yard times (nth k)) b → Full lastReceived → suc k ≡ length (standardBlocks last)
-        → getD (standardBlocks last) k [] ≡ set (blockBytes b) codeOffset codeNoSpace
+    pub block-kept : (k : ℕ) (b : Block) → BlockOf (callAt yard times (nth k)) b → Full ipv4 lastRoom lastReceived → suc k < length (standardBlocks ipv4 last)
+        → getD (standardBlocks ipv4 last) k [] ≡ blockBytes b
+    pub block-marked : (k : ℕ) (b : Block) → BlockOf (callAt yard times (nth k)) b → Full ipv4 lastRoom lastReceived → suc k ≡ length (standardBlocks ipv4 last)
+        → getD (standardBlocks ipv4 last) k [] ≡ set (blockBytes b) codeOffset codeNoSpace
 
 -- 3. What is demanded of what a walk tells
 pub record Demand3 (engine : Engine) (yard times : List ℕ) (v : Visit) (output : List ℕ) (t : Told) : Type 0 where
   -- a refused walk has 0 steps, one dropped by its first router 1; both have 0 blocks, length 0 and untouched output
-  pub refuses : (n : ℕ) → IsFirst (walkRows yard times v (length output)) n → t ≡ told n 0 [] output
-  pub drops : (n : ℕ) → NoneApplies (walkRows yard times v (length output)) → IsFirst (rows (callAt yard times v)) n → t ≡ told n 1 [] output
+  pub refuses : (n : ℕ) → IsFirst (walkRows ipv4 yard times v (length output)) n → t ≡ told n 0 [] output
+  pub drops : (n : ℕ) → NoneApplies (walkRows ipv4 yard times v (length output)) → IsFirst (rows (callAt yard times v)) n → t ≡ told n 1 [] output
   -- any other tells of its run
-  pub walks : (visits : List Visit) (end : ℕ) (last : List ℕ) → NoneApplies (walkRows yard times v (length output))
+  pub walks : (visits : List Visit) (end : ℕ) (last : List ℕ) → NoneApplies (walkRows ipv4 yard times v (length output))
       → Run engine yard times v visits end last → t ≡ told end (length visits) last output
   -- and where the first router accepts, of the truth
-  pub tells-truth : (visits : List Visit) (end : ℕ) (last : List ℕ) → NoneApplies (walkRows yard times v (length output))
+  pub tells-truth : (visits : List Visit) (end : ℕ) (last : List ℕ) → NoneApplies (walkRows ipv4 yard times v (length output))
       → NoneApplies (rows (callAt yard times v)) → Run engine yard times v visits end last → Truth yard times v visits end last
 
 -- a walk meets it for every yard, times, start and output

@@ -29,17 +29,8 @@ use Rattle.rows.proofs.Laws.{given-alone, none-alone, given-by, none-by}
 use Rattle.message.specs.Format.{query}
 use Rattle.drops.specs.Drop.{dropLastHop, isHeld, lendingRows, deliveryRows, routeRows, table}
 use Rattle.drops.specs.Inside.{sheetRows, dropVerdict, passVerdict, routedOf, judgedOf}
-
--- an interface holds the address, or none does
-pub held-at : (s : List ℕ) (address i : ℕ) (found : Holding) → found ≡ holderOf s address → found ≡ At i → true ≡ isHeld (holderOf s address)
-held-at s address i found e f = rw (← e, f)
-
-pub held-not : (s : List ℕ) (address : ℕ) (found : Holding) → found ≡ holderOf s address → found ≡ Nowhere → false ≡ isHeld (holderOf s address)
-held-not s address found e f = rw (← e, f)
-
--- the number of interfaces that the check told
-pub interfaces-told : (s : List ℕ) (l : Layout) → l ≡ layoutOf s → l .interfaces ≡ layoutOf s .interfaces
-interfaces-told s l e = ap (λ (x : Layout). x .interfaces) e
+use Rattle.format.specs.declared.Format.{Format}
+use Rattle.format.specs.Sizes.{Sound}
 
 -- only a Query is looked for in the recent list
 pub seen-no-query : (h : Header) (x : Bool) → (h .kind ≡ query → ⊥) → false ≡ (isQuery h && x)
@@ -67,84 +58,96 @@ asked : (proper : Bool) (h : Header) (destination : ℕ) → firstOf (routeRows 
 unfolding routeRows
 asked proper h destination = rw (asked-flag (isQuery h) (linkScoped destination) proper)
 
--- rows 14 to 18
-module _ (h : Header) (b : Blocks) (destination ttl : ℕ) (s r : List ℕ) (n : ℕ)
-    (delivery : n ≡ firstOf (deliveryRows s r h (b .count) destination ttl)) where
-  abbrev came : List Row
-  came = deliveryRows s r h (b .count) destination ttl
+module _ {F : Format} (sound : Sound F) where
+  -- an interface holds the address, or none does
+  pub held-at : (s : List ℕ) (address i : ℕ) (found : Holding) → found ≡ holderOf F s address → found ≡ At i → true ≡ isHeld (holderOf F s address)
+  held-at s address i found e f = rw (← e, f)
 
-  abbrev late : List Row
-  late = routeRows (lastHopFor s h) h destination
+  pub held-not : (s : List ℕ) (address : ℕ) (found : Holding) → found ≡ holderOf F s address → found ≡ Nowhere → false ≡ isHeld (holderOf F s address)
+  held-not s address found e f = rw (← e, f)
 
-  pub routed-dropped : (v : Verdict) → (n ≡ 0 → ⊥) → v ≡ dropVerdict n → v ≡ routedOf h b destination ttl s r
-  unfolding routedOf
-  routed-dropped v some e = e ∙ sym (given-by dropVerdict (passVerdict h b s) came late n delivery some)
+  -- the number of interfaces that the check told
+  pub interfaces-told : (s : List ℕ) (l : Layout) → l ≡ layoutOf F s → l .interfaces ≡ layoutOf F s .interfaces
+  interfaces-told s l e = ap (λ (x : Layout). x .interfaces) e
 
-  module _ (none : n ≡ 0) (c : Chosen) (chosen : c ≡ whichRoute (routesOf s) (h .source) (h .group)) (p : Bool)
-      (hop : p ≡ (isQuery h && properLastHop (interfaceOf s) (layoutOf s .interfaces) c (h .client))) (k : ℕ)
-      (row : k ≡ firstOf (routeRows p h destination)) where
-    is-route : c ≡ routeFor s h
-    unfolding routeFor
-    is-route = chosen
+  -- rows 14 to 18
+  module _ (h : Header) (b : Blocks) (destination ttl : ℕ) (s r : List ℕ) (n : ℕ)
+      (delivery : n ≡ firstOf (deliveryRows F s r h (b .count) destination ttl)) where
+    abbrev came : List Row
+    came = deliveryRows F s r h (b .count) destination ttl
 
-    is-hop : p ≡ (isQuery h && lastHopFor s h)
-    unfolding lastHopFor
-    is-hop = hop ∙ ap (λ (w : Chosen). isQuery h && properLastHop (interfaceOf s) (layoutOf s .interfaces) w (h .client)) is-route
+    abbrev late : List Row
+    late = routeRows (lastHopFor F s h) h destination
 
-    late-row : k ≡ firstOf late
-    late-row =
-        row ∙ ap (λ (x : Bool). firstOf (routeRows x h destination)) is-hop ∙ asked (lastHopFor s h) h destination
+    pub routed-dropped : (v : Verdict) → (n ≡ 0 → ⊥) → v ≡ dropVerdict n → v ≡ routedOf F h b destination ttl s r
+    unfolding routedOf
+    routed-dropped v some e = e ∙ sym (given-by dropVerdict (passVerdict F h b s) came late n delivery some)
 
-    not-delivery : routedOf h b destination ttl s r ≡ byFirst dropVerdict (passVerdict h b s) late
-    unfolding routedOf deliveryRows
-    not-delivery = none-by dropVerdict (passVerdict h b s) came late n delivery refl none
+    module _ (none : n ≡ 0) (c : Chosen) (chosen : c ≡ whichRoute (routesOf F s) (h .source) (h .group)) (p : Bool)
+        (hop : p ≡ (isQuery h && properLastHop (interfaceOf F s) (layoutOf F s .interfaces) c (h .client))) (k : ℕ)
+        (row : k ≡ firstOf (routeRows p h destination)) where
+      is-route : c ≡ routeFor F s h
+      unfolding routeFor
+      is-route = chosen
 
-    pub routed-late : (v : Verdict) → (k ≡ 0 → ⊥) → v ≡ dropVerdict k → v ≡ routedOf h b destination ttl s r
-    routed-late v some e = e ∙ sym (not-delivery ∙ given-alone dropVerdict (passVerdict h b s) late k late-row some)
+      is-hop : p ≡ (isQuery h && lastHopFor F s h)
+      unfolding lastHopFor
+      is-hop = hop ∙ ap (λ (w : Chosen). isQuery h && properLastHop (interfaceOf F s) (layoutOf F s .interfaces) w (h .client)) is-route
 
-    pub routed-taken : k ≡ 0 → record { number = 0; header = h; blocks = b; chosen = c; proper = p } ≡ routedOf h b destination ttl s r
-    unfolding passVerdict routeRows
-    routed-taken z = rw (is-hop, is-route) (sym (not-delivery ∙ none-alone dropVerdict (passVerdict h b s) late k late-row refl z))
+      late-row : k ≡ firstOf late
+      late-row =
+          row ∙ ap (λ (x : Bool). firstOf (routeRows x h destination)) is-hop ∙ asked (lastHopFor F s h) h destination
 
--- rows 3 to 18
-module _ (m : List ℕ) (destination receiving ttl : ℕ) (s r : List ℕ) where
-  abbrev verdict : Verdict
-  verdict = judgedOf (arrival m destination receiving ttl) s r
+      not-delivery : routedOf F h b destination ttl s r ≡ byFirst dropVerdict (passVerdict F h b s) late
+      unfolding routedOf deliveryRows
+      not-delivery = none-by dropVerdict (passVerdict F h b s) came late n delivery refl none
 
-  abbrev pass : Verdict
-  pass = passVerdict (headerOf m) (blocksSeen m) s
+      pub routed-late : (v : Verdict) → (k ≡ 0 → ⊥) → v ≡ dropVerdict k → v ≡ routedOf F h b destination ttl s r
+      routed-late v some e = e ∙ sym (not-delivery ∙ given-alone dropVerdict (passVerdict F h b s) late k late-row some)
 
-  abbrev first : List Row
-  first = sheetRows (layoutOf s) receiving
+      pub routed-taken : k ≡ 0 → record { number = 0; header = h; blocks = b; chosen = c; proper = p } ≡ routedOf F h b destination ttl s r
+      unfolding passVerdict routeRows
+      routed-taken z = rw (is-hop, is-route) (sym (not-delivery ∙ none-alone dropVerdict (passVerdict F h b s) late k late-row refl z))
 
-  -- from row 14 on
-  abbrev last : List Row
-  last =
-      deliveryRows s r (headerOf m) (standardCount m) destination ttl
-      ++ routeRows (lastHopFor s (headerOf m)) (headerOf m) destination
+  -- rows 3 to 18
+  module _ (m : List ℕ) (destination receiving ttl : ℕ) (s r : List ℕ) where
+    abbrev verdict : Verdict
+    verdict = judgedOf F (arrival m destination receiving ttl) s r
 
-  module _ (l : Layout) (layout : l ≡ layoutOf s) (n : ℕ) (tested : n ≡ firstOf (sheetRows l receiving)) where
-    first-row : n ≡ firstOf first
-    first-row = rw (← layout) tested
+    abbrev pass : Verdict
+    pass = passVerdict F (headerOf m) (blocksSeen F m) s
 
-    pub judged-sheet : (v : Verdict) → (n ≡ 0 → ⊥) → v ≡ dropVerdict n → v ≡ verdict
-    unfolding judgedOf table lendingRows
-    judged-sheet v some e = e ∙ sym (given-by dropVerdict pass first (messageRows m ++ last) n first-row some)
+    abbrev first : List Row
+    first = sheetRows (layoutOf F s) receiving
 
-    module _ (none : n ≡ 0) (k : Checked) (checked : k ≡ checkOf m) where
-      not-sheet : verdict ≡ byFirst dropVerdict pass (messageRows m ++ last)
+    -- from row 14 on
+    abbrev last : List Row
+    last =
+        deliveryRows F s r (headerOf m) (standardCount F m) destination ttl
+        ++ routeRows (lastHopFor F s (headerOf m)) (headerOf m) destination
+
+    module _ (l : Layout) (layout : l ≡ layoutOf F s) (n : ℕ) (tested : n ≡ firstOf (sheetRows l receiving)) where
+      first-row : n ≡ firstOf first
+      first-row = rw (← layout) tested
+
+      pub judged-sheet : (v : Verdict) → (n ≡ 0 → ⊥) → v ≡ dropVerdict n → v ≡ verdict
       unfolding judgedOf table lendingRows
-      not-sheet = none-by dropVerdict pass first (messageRows m ++ last) n first-row refl none
+      judged-sheet v some e = e ∙ sym (given-by dropVerdict pass first (messageRows F m ++ last) n first-row some)
 
-      pub judged-message : (v : Verdict) → (k .number ≡ 0 → ⊥) → v ≡ dropVerdict (k .number) → v ≡ verdict
-      judged-message v some e =
-          e ∙ sym (not-sheet ∙ given-by dropVerdict pass (messageRows m) last (k .number) (check-number m k checked) some)
+      module _ (none : n ≡ 0) (k : Checked) (checked : k ≡ checkOf F m) where
+        not-sheet : verdict ≡ byFirst dropVerdict pass (messageRows F m ++ last)
+        unfolding judgedOf table lendingRows
+        not-sheet = none-by dropVerdict pass first (messageRows F m ++ last) n first-row refl none
 
-      pub judged-routed : (v : Verdict) → k .number ≡ 0 → v ≡ routedOf (k .header) (k .blocks) destination ttl s r → v ≡ verdict
-      unfolding routedOf blocksSeen messageRows headerRows acceptedMessage
-      judged-routed v z e =
-          let as-is = accepts-as m k checked z in
-          let header : k .header ≡ headerOf m = ap (λ (x : Checked). x .header) as-is in
-          let blocks : k .blocks ≡ blocksSeen m = ap (λ (x : Checked). x .blocks) as-is in
-          e
-          ∙ rw (header, blocks) (sym (not-sheet ∙ none-by dropVerdict pass (messageRows m) last (k .number) (check-number m k checked) refl z))
+        pub judged-message : (v : Verdict) → (k .number ≡ 0 → ⊥) → v ≡ dropVerdict (k .number) → v ≡ verdict
+        judged-message v some e =
+            e ∙ sym (not-sheet ∙ given-by dropVerdict pass (messageRows F m) last (k .number) (check-number sound m k checked) some)
+
+        pub judged-routed : (v : Verdict) → k .number ≡ 0 → v ≡ routedOf F (k .header) (k .blocks) destination ttl s r → v ≡ verdict
+        unfolding routedOf blocksSeen messageRows headerRows acceptedMessage
+        judged-routed v z e =
+            let as-is = accepts-as sound m k checked z in
+            let header : k .header ≡ headerOf m = ap (λ (x : Checked). x .header) as-is in
+            let blocks : k .blocks ≡ blocksSeen F m = ap (λ (x : Checked). x .blocks) as-is in
+            e
+            ∙ rw (header, blocks) (sym (not-sheet ∙ none-by dropVerdict pass (messageRows F m) last (k .number) (check-number sound m k checked) refl z))

@@ -10,6 +10,7 @@ use Rattle.route.specs.LastHop.{properLastHop}
 use Rattle.route.specs.declared.Chosen.{Chosen}
 use Rattle.message.specs.declared.Header.{Header}
 use Rattle.message.specs.Format.{query, request}
+use Rattle.format.specs.declared.Format.{Format}
 
 -- a message, and what the host tells of it: its destination, the number of the receiving interface, the TTL
 pub record Arrival : Type 0 where
@@ -29,9 +30,9 @@ abbrev pub isRequest : Header → Bool
 isRequest h = eqb (h .kind) request
 
 -- the route for a message
-unfoldable pub routeFor : List ℕ → Header → Chosen
-routeFor sheet h = whichRoute (routesOf sheet) (h .source) (h .group)
+unfoldable pub routeFor : Format → List ℕ → Header → Chosen
+routeFor F sheet h = whichRoute (routesOf F sheet) (h .source) (h .group)
 
 -- this router is the proper last hop for its client
-unfoldable pub lastHopFor : List ℕ → Header → Bool
-lastHopFor sheet h = properLastHop (interfaceOf sheet) (layoutOf sheet .interfaces) (routeFor sheet h) (h .client)
+unfoldable pub lastHopFor : Format → List ℕ → Header → Bool
+lastHopFor F sheet h = properLastHop (interfaceOf F sheet) (layoutOf F sheet .interfaces) (routeFor F sheet h) (h .client)

@@ -14,11 +14,13 @@ use Rattle.sheet.specs.declared.tables.Holding.the-variants.{At, Nowhere}
 use Rattle.sheet.specs.Sheet.{layoutOf}
 use Rattle.sheet.specs.Tables.{holderOf}
 use Rattle.message.specs.declared.Header.{Header}
-use Rattle.message.specs.Format.{most, noteSize}
+use Rattle.message.specs.Format.{noteSize}
 use Rattle.message.specs.Header.{headerOf}
 use Rattle.message.specs.Room.{hopsUsed}
 use Rattle.message.specs.Check.{messageRows}
 use Rattle.drops.specs.Arrival.{Arrival, isQuery, isRequest, lastHopFor}
+use Rattle.format.specs.declared.Format.{Format}
+use Rattle.format.specs.Sizes.{outputSize}
 
 -- the numbers, by their names in the table; 5 to 13 are those of a message by itself
 abbrev pub dropRoom : ℕ
@@ -64,16 +66,16 @@ isHeld Nowhere = false
 -- what the host lends with the call
 unfoldable pub lendingRows : ℕ → ℕ → List ℕ → Layout → ℕ → List Row
 lendingRows output note recent layout receiving =
-    row dropRoom (ltb output most || ltb note noteSize)
+    row dropRoom (ltb output outputSize || ltb note noteSize)
     ∷ row dropState (not (wellFormed recent))
     ∷ row dropSheet (not (layout .valid))
     ∷ row dropIface (leb (layout .interfaces) receiving)
     ∷ []
 
 -- how the message came, with so many of its hops used
-unfoldable pub deliveryRows : List ℕ → List ℕ → Header → ℕ → ℕ → ℕ → List Row
-deliveryRows sheet recent h used destination ttl =
-    row dropDest (not (isHeld (holderOf sheet destination) || linkScoped destination))
+unfoldable pub deliveryRows : Format → List ℕ → List ℕ → Header → ℕ → ℕ → ℕ → List Row
+deliveryRows F sheet recent h used destination ttl =
+    row dropDest (not (isHeld (holderOf F sheet destination) || linkScoped destination))
     ∷ row dropNear (isRequest h && not (eqb ttl nearTtl))
     ∷ row dropCount (isRequest h && leb (h .hops) used)
     ∷ row dropSeen (isQuery h && seenIn recent (h .client) (h .id))
@@ -87,15 +89,15 @@ routeRows proper h destination =
 
 -- the whole table: 1 to 4, 5 to 13 on the message by itself, 14 to 17, 18. Document 01 has one row more, which no input meets
 -- (law `no-previous-idle`)
-unfoldable pub table : Arrival → List ℕ → List ℕ → ℕ → ℕ → List Row
-table a sheet recent output note =
+unfoldable pub table : Format → Arrival → List ℕ → List ℕ → ℕ → ℕ → List Row
+table F a sheet recent output note =
     let m = a .message in
     let h = headerOf m in
-    lendingRows output note recent (layoutOf sheet) (a .receiving)
-    ++ (messageRows m
-    ++ (deliveryRows sheet recent h (hopsUsed m) (a .destination) (a .ttl)
-    ++ routeRows (lastHopFor sheet h) h (a .destination)))
+    lendingRows output note recent (layoutOf F sheet) (a .receiving)
+    ++ (messageRows F m
+    ++ (deliveryRows F sheet recent h (hopsUsed F m) (a .destination) (a .ttl)
+    ++ routeRows (lastHopFor F sheet h) h (a .destination)))
 
 -- the number of the first row that applies; 0 is no drop
-abbrev pub dropOf : Arrival → List ℕ → List ℕ → ℕ → ℕ → ℕ
-dropOf a sheet recent output note = firstOf (table a sheet recent output note)
+abbrev pub dropOf : Format → Arrival → List ℕ → List ℕ → ℕ → ℕ → ℕ
+dropOf F a sheet recent output note = firstOf (table F a sheet recent output note)

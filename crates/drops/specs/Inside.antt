@@ -10,12 +10,14 @@ use Rattle.sheet.specs.Sheet.{noLayout}
 use Rattle.route.specs.declared.Chosen.the-variants.{Nothing}
 use Rattle.message.specs.declared.Header.{Header}
 use Rattle.message.specs.declared.Blocks.{Blocks}
-use Rattle.message.specs.Format.{most, noteSize}
+use Rattle.message.specs.Format.{noteSize}
 use Rattle.message.specs.Header.{headerOf}
 use Rattle.message.specs.Inside.{noHeader, noBlocks, blocksSeen}
 use Rattle.drops.specs.declared.Verdict.{Verdict}
 use Rattle.drops.specs.Arrival.{Arrival, isQuery, routeFor, lastHopFor}
 use Rattle.drops.specs.Drop.{lendingRows, deliveryRows, routeRows, table}
+use Rattle.format.specs.declared.Format.{Format}
+use Rattle.format.specs.Sizes.{outputSize}
 
 -- rows 1 and 2: what is lent besides the sheet
 abbrev pub lentRows : ℕ → ℕ → List ℕ → List Row
@@ -31,24 +33,24 @@ dropVerdict number =
     record { number = number; header = noHeader; blocks = noBlocks; chosen = Nothing; proper = false }
 
 -- number 0: the header and the blocks of the message, the route for it, and whether this is a Query's proper last hop
-unfoldable pub passVerdict : Header → Blocks → List ℕ → Verdict
-passVerdict h blocks sheet =
-    record { number = 0; header = h; blocks = blocks; chosen = routeFor sheet h; proper = isQuery h && lastHopFor sheet h }
+unfoldable pub passVerdict : Format → Header → Blocks → List ℕ → Verdict
+passVerdict F h blocks sheet =
+    record { number = 0; header = h; blocks = blocks; chosen = routeFor F sheet h; proper = isQuery h && lastHopFor F sheet h }
 
 -- from row 14 on, for a message of this header and these blocks
-unfoldable pub routedOf : Header → Blocks → ℕ → ℕ → List ℕ → List ℕ → Verdict
-routedOf h blocks destination ttl sheet recent =
-    byFirst dropVerdict (passVerdict h blocks sheet)
-    (deliveryRows sheet recent h (blocks .count) destination ttl ++ routeRows (lastHopFor sheet h) h destination)
+unfoldable pub routedOf : Format → Header → Blocks → ℕ → ℕ → List ℕ → List ℕ → Verdict
+routedOf F h blocks destination ttl sheet recent =
+    byFirst dropVerdict (passVerdict F h blocks sheet)
+    (deliveryRows F sheet recent h (blocks .count) destination ttl ++ routeRows (lastHopFor F sheet h) h destination)
 
 -- the verdict on what arrives, where rows 1 and 2 do not apply: by the table from row 3 on
-unfoldable pub judgedOf : Arrival → List ℕ → List ℕ → Verdict
-judgedOf a sheet recent =
+unfoldable pub judgedOf : Format → Arrival → List ℕ → List ℕ → Verdict
+judgedOf F a sheet recent =
     let m = a .message in
-    byFirst dropVerdict (passVerdict (headerOf m) (blocksSeen m) sheet) (drop 2 (table a sheet recent most noteSize))
+    byFirst dropVerdict (passVerdict F (headerOf m) (blocksSeen F m) sheet) (drop 2 (table F a sheet recent outputSize noteSize))
 
 -- the verdict on what arrives, by the whole table
-unfoldable pub verdictOf : Arrival → List ℕ → List ℕ → ℕ → ℕ → Verdict
-verdictOf a sheet recent output note =
+unfoldable pub verdictOf : Format → Arrival → List ℕ → List ℕ → ℕ → ℕ → Verdict
+verdictOf F a sheet recent output note =
     let m = a .message in
-    byFirst dropVerdict (passVerdict (headerOf m) (blocksSeen m) sheet) (table a sheet recent output note)
+    byFirst dropVerdict (passVerdict F (headerOf m) (blocksSeen F m) sheet) (table F a sheet recent output note)

@@ -1,4 +1,5 @@
 // Whether a router drops what arrives: the drop table, and what is found out while it is tried.
+use format::Format;
 use message::Blocks;
 use message::Header;
 use route::Chosen;
@@ -6,6 +7,7 @@ use sheet::Layout;
 ghost use mathlib.Core.Path.{_≡_};
 ghost use mathlib.Core.Bool.{true, _&&_, _||_};
 ghost use Rattle.wire.specs.Addresses.{linkScoped};
+ghost use Rattle.format.specs.Sizes.{Sound};
 ghost use Rattle.recent.specs.Inside.{Formed};
 ghost use Rattle.recent.specs.Entries.{seenIn};
 ghost use Rattle.sheet.specs.Sheet.{layoutOf};
@@ -51,7 +53,7 @@ pub struct Verdict {
 pub fn lent_row(output: usize, note: usize, recent: &[u8]) -> u32
     ensures { λ r. ⌜ r ≡ firstOf (lentRows output note (now (recent .entry))) ⌝ }
 {
-    if (output < message::MOST) | (note < message::NOTE_SIZE) {
+    if (output < format::OUTPUT_SIZE) | (note < message::NOTE_SIZE) {
         return DROP_ROOM;
     }
     if !recent::check(recent) {
@@ -74,11 +76,12 @@ fn sheet_row(layout: Layout, receiving: u32) -> u32
 }
 
 // Whether an interface of a valid sheet holds an address.
-fn is_held(sheet: &[u8], interfaces: usize, address: u32) -> bool
-    requires { ⌜ interfaces ≡ layoutOf (now sheet) .interfaces ⌝ }
-    ensures { λ r. ⌜ r ≡ isHeld (holderOf (now (sheet .entry)) address) ⌝ }
+fn is_held(f: Format, sheet: &[u8], interfaces: usize, address: u32) -> bool
+    requires { ⌜ Sound f ⌝ }
+    requires { ⌜ interfaces ≡ layoutOf f (now sheet) .interfaces ⌝ }
+    ensures { λ r. ⌜ r ≡ isHeld (holderOf f (now (sheet .entry)) address) ⌝ }
 {
-    let found = sheet::holder(sheet, interfaces, address);
+    let found = sheet::holder(f, sheet, interfaces, address);
     match found {
         sheet::Holding::At(_) => true,
         sheet::Holding::Nowhere => false,
@@ -86,11 +89,12 @@ fn is_held(sheet: &[u8], interfaces: usize, address: u32) -> bool
 }
 
 // DEST does not apply: the destination is an interface address here, or in 224.0.0.0/24.
-fn is_delivered(sheet: &[u8], interfaces: usize, destination: u32) -> bool
-    requires { ⌜ interfaces ≡ layoutOf (now sheet) .interfaces ⌝ }
-    ensures { λ r. ⌜ r ≡ (isHeld (holderOf (now (sheet .entry)) destination) || linkScoped destination) ⌝ }
+fn is_delivered(f: Format, sheet: &[u8], interfaces: usize, destination: u32) -> bool
+    requires { ⌜ Sound f ⌝ }
+    requires { ⌜ interfaces ≡ layoutOf f (now sheet) .interfaces ⌝ }
+    ensures { λ r. ⌜ r ≡ (isHeld (holderOf f (now (sheet .entry)) destination) || linkScoped destination) ⌝ }
 {
-    is_held(sheet, interfaces, destination) | wire::link_scoped(destination)
+    is_held(f, sheet, interfaces, destination) | wire::link_scoped(destination)
 }
 
 // A Query whose client and id are in a well-formed recent list.
@@ -105,18 +109,20 @@ fn is_seen(recent: &[u8], h: Header) -> bool
 }
 
 // Whether this is the proper last hop for a Query, by the route chosen. Nothing is asked of a Request.
-fn is_proper(sheet: &[u8], layout: Layout, chosen: Chosen, h: Header) -> bool
-    requires { ⌜ layout ≡ layoutOf (now sheet) ⌝ }
-    ensures { λ r. ⌜ r ≡ (isQuery h && properLastHop (interfaceOf (now (sheet .entry))) (layoutOf (now (sheet .entry)) .interfaces) chosen (h .client)) ⌝ }
+fn is_proper(f: Format, sheet: &[u8], layout: Layout, chosen: Chosen, h: Header) -> bool
+    requires { ⌜ Sound f ⌝ }
+    requires { ⌜ layout ≡ layoutOf f (now sheet) ⌝ }
+    ensures { λ r. ⌜ r ≡ (isQuery h && properLastHop (interfaceOf f (now (sheet .entry))) (layoutOf f (now (sheet .entry)) .interfaces) chosen (h .client)) ⌝ }
 {
     if h.kind == message::QUERY {
-        return route::last_hop(sheet, layout, chosen, h.client);
+        return route::last_hop(f, sheet, layout, chosen, h.client);
     }
     false
 }
 
 // Rows 14 to 17.
 fn delivery_row(
+    f: Format,
     sheet: &[u8],
     layout: Layout,
     recent: &[u8],
@@ -125,11 +131,12 @@ fn delivery_row(
     destination: u32,
     ttl: u32,
 ) -> u32
-    requires { ⌜ layout ≡ layoutOf (now sheet) ⌝ }
+    requires { ⌜ Sound f ⌝ }
+    requires { ⌜ layout ≡ layoutOf f (now sheet) ⌝ }
     requires { ⌜ Formed (now recent) ⌝ }
-    ensures { λ r. ⌜ r ≡ firstOf (deliveryRows (now (sheet .entry)) (now (recent .entry)) h used destination ttl) ⌝ }
+    ensures { λ r. ⌜ r ≡ firstOf (deliveryRows f (now (sheet .entry)) (now (recent .entry)) h used destination ttl) ⌝ }
 {
-    if !is_delivered(sheet, layout.interfaces, destination) {
+    if !is_delivered(f, sheet, layout.interfaces, destination) {
         return DROP_DEST;
     }
     if (h.kind == message::REQUEST) & (ttl != NEAR_TTL) {
@@ -181,6 +188,7 @@ fn dropped(number: u32) -> Verdict
 
 // Rows 14 to 18, where the sheet, the recent list and the message itself are right.
 fn routed(
+    f: Format,
     h: Header,
     b: Blocks,
     destination: u32,
@@ -189,16 +197,17 @@ fn routed(
     layout: Layout,
     recent: &[u8],
 ) -> Verdict
-    requires { ⌜ layout ≡ layoutOf (now sheet) ⌝ }
+    requires { ⌜ Sound f ⌝ }
+    requires { ⌜ layout ≡ layoutOf f (now sheet) ⌝ }
     requires { ⌜ Formed (now recent) ⌝ }
-    ensures { λ v. ⌜ v ≡ routedOf h b destination ttl (now (sheet .entry)) (now (recent .entry)) ⌝ }
+    ensures { λ v. ⌜ v ≡ routedOf f h b destination ttl (now (sheet .entry)) (now (recent .entry)) ⌝ }
 {
-    let number = delivery_row(sheet, layout, recent, h, b.count, destination, ttl);
+    let number = delivery_row(f, sheet, layout, recent, h, b.count, destination, ttl);
     if number != 0 {
         return dropped(number);
     }
-    let chosen = route::choose(sheet, layout, h.source, h.group);
-    let proper = is_proper(sheet, layout, chosen, h);
+    let chosen = route::choose(f, sheet, layout, h.source, h.group);
+    let proper = is_proper(f, sheet, layout, chosen, h);
     let number = route_row(proper, h, destination);
     if number != 0 {
         return dropped(number);
@@ -213,28 +222,31 @@ fn routed(
 }
 
 // What a router makes of what arrives, where what is lent besides the sheet is right: the first row from 3 on that applies, or what
-// the answer needs.
+// the answer needs. `layout` is what the check told of the sheet.
 pub fn judge(
+    f: Format,
     message: &[u8],
     destination: u32,
     receiving: u32,
     ttl: u32,
     sheet: &[u8],
+    layout: Layout,
     recent: &[u8],
 ) -> Verdict
+    requires { ⌜ Sound f ⌝ }
+    requires { ⌜ layout ≡ layoutOf f (now sheet) ⌝ }
     requires { ⌜ Formed (now recent) ⌝ }
-    ensures { λ v. ⌜ v ≡ judgedOf (arrival (now (message .entry)) destination receiving ttl) (now (sheet .entry)) (now (recent .entry)) ⌝ }
+    ensures { λ v. ⌜ v ≡ judgedOf f (arrival (now (message .entry)) destination receiving ttl) (now (sheet .entry)) (now (recent .entry)) ⌝ }
 {
-    let layout = sheet::check(sheet);
     let number = sheet_row(layout, receiving);
     if number != 0 {
         return dropped(number);
     }
-    let m = message::check(message);
+    let m = message::check(f, message);
     if m.number != 0 {
         return dropped(m.number);
     }
     let h = m.header;
     let b = m.blocks;
-    routed(h, b, destination, ttl, sheet, layout, recent)
+    routed(f, h, b, destination, ttl, sheet, layout, recent)
 }

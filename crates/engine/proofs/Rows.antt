@@ -1,18 +1,20 @@
 -- A law for each way out of a function: what its tests showed and what its callees answered, and the definition's answer.
-use Prim.Native.Nat.{ℕ, _+_, _<_}
+use Prim.Native.Nat.{ℕ, _+_, _≤_, _<_}
 use mathlib.Core.Bool.{Bool, true, false}
 use mathlib.Core.List.{List}
 use mathlib.Core.Path.{_≡_, refl, _∙_}
+use native.Mathlib.Omega.{arith}
 use lib.Dec.{eqb}
 use lib.ListN.{length, length-set, set}
 use borrow.Author.Tests.{eq-eqb, ne-eqb}
 use Rattle.wire.specs.Parts.{splice}
-use Rattle.entry.specs.Route.{unknown}
-use Rattle.entry.specs.declared.interface.Interface.{Interface}
-use Rattle.entry.specs.declared.route.Route.{Route}
+use Rattle.route_entry.specs.Route.{unknown}
+use Rattle.interface.specs.declared.Interface.{Interface}
+use Rattle.route_entry.specs.declared.Route.{Route}
 use Rattle.sheet.specs.Sheet.{layoutOf}
 use Rattle.sheet.specs.Tables.{interfaceOf, prohibitedOf}
-use Rattle.sheet.proofs.Laws.{interface-valid, valid-told}
+use Rattle.block.specs.Block.{blockSize}
+use Rattle.sheet.proofs.Laws.{interface-valid, valid-told, valid-long}
 use Rattle.route.specs.declared.Chosen.{Chosen}
 use Rattle.route.specs.declared.Chosen.the-variants.{Found, Nothing}
 use Rattle.response.specs.declared.Incoming.{Incoming}
@@ -22,35 +24,24 @@ use Rattle.response.specs.declared.Note.{Note}
 use Rattle.response.specs.declared.Block.{Block}
 use Rattle.response.specs.View.{addressOf}
 use Rattle.response.specs.Fill.{upstreamOf, blockOf, endsTrace}
-use Rattle.response.specs.Bytes.{noteBytes}
+use Rattle.response.specs.Bytes.{blockBytes, noteBytes}
 use Rattle.message.specs.declared.Header.{Header}
 use Rattle.message.specs.Header.{headerOf}
 use Rattle.message.specs.Blocks.{lastStandard}
 use Rattle.engine.specs.View.{incomingFor, viewWith}
 use Rattle.engine.specs.Answer.{sentOn, sentHome, mtracePort, noteHome, noteOn, goesHome, goesOn, fullMessage, longerMessage, longerAnswer}
-use Rattle.engine.specs.Inside.{kindSent, RouteThere, Written}
-use Rattle.message.specs.Format.{query, request, reply, standardSize, codeOffset}
+use Rattle.engine.specs.Inside.{kindSent, RouteThere, Written, WithRoom}
+use Rattle.message.specs.Format.{query, request, reply}
 use Rattle.response.specs.Code.{codeNoSpace}
 use Rattle.message.specs.Room.{hopsUsed}
 use Rattle.engine.proofs.Sent.{longer-length}
+use Rattle.format.specs.declared.Format.{Format}
+use Rattle.response.specs.Inside.{Writes}
+use Rattle.engine.specs.Room.{linkOf}
 
--- the incoming interface, by the route chosen
-module _ (s : List ℕ) (chosen : Chosen) where
-  module _ (r : Route) (found : chosen ≡ Found r) where
-    pub incoming-unknown : r .incoming ≡ unknown → Unknown ≡ incomingFor s chosen
-    unfolding incomingFor
-    incoming-unknown e = rw (found, eq-eqb (r .incoming) unknown e)
-
-    pub incoming-known : (i : Interface) → (r .incoming ≡ unknown → ⊥) → i ≡ interfaceOf s (r .incoming) → Known i ≡ incomingFor s chosen
-    unfolding incomingFor
-    incoming-known i e f = rw (found, ne-eqb (r .incoming) unknown e, f)
-
-    pub incoming-there : (r .incoming ≡ unknown → ⊥) → RouteThere (layoutOf s .interfaces) chosen → r .incoming < layoutOf s .interfaces
-    incoming-there e there = (rw found at there) e
-
-  pub incoming-none : chosen ≡ Nothing → Unknown ≡ incomingFor s chosen
-  unfolding incomingFor
-  incoming-none none = rw none
+-- the link whose room counts, where the incoming interface is known
+pub link-known : (incoming : Incoming) (i here : Interface) → incoming ≡ Known i → i .mtu ≡ linkOf incoming here .mtu
+link-known incoming i here e = rw e
 
 -- the record of a Request sent on, by the route chosen
 pub note-found : (chosen : Chosen) (r : Route) (i : Incoming) (n u a : ℕ) → chosen ≡ Found r → u ≡ upstreamOf r → a ≡ addressOf i
@@ -61,56 +52,80 @@ pub note-none : (chosen : Chosen) (i : Incoming) (n : ℕ) → chosen ≡ Nothin
     → record { length = n; destination = 0; port = 0; interface = 0; source = 0 } ≡ noteOn chosen i n
 note-none chosen i n none = rw none
 
--- a sheet with an interface is valid
-pub valid-here : (s : List ℕ) (receiving : ℕ) → receiving < layoutOf s .interfaces → layoutOf s .valid ≡ true
-valid-here s receiving h = valid-told s ∙ interface-valid s receiving h
+module _ (F : Format) where
+  -- the incoming interface, by the route chosen
+  module _ (s : List ℕ) (chosen : Chosen) where
+    module _ (r : Route) (found : chosen ≡ Found r) where
+      pub incoming-unknown : r .incoming ≡ unknown → Unknown ≡ incomingFor F s chosen
+      unfolding incomingFor
+      incoming-unknown e = rw (found, eq-eqb (r .incoming) unknown e)
 
--- the view, field by field
-pub view-made : (s : List ℕ) (h : Header) (chosen : Chosen) (proper : Bool) (receiving time : ℕ) (incoming : Incoming) (prohibited : Bool) (here : Interface)
-    → incoming ≡ incomingFor s chosen → prohibited ≡ prohibitedOf s → here ≡ interfaceOf s receiving
-    → record {
-      query = eqb (h .kind) query;
-      proper = proper;
-      chosen = chosen;
-      incoming = incoming;
-      prohibited = prohibited;
-      number = receiving;
-      here = here;
-      group = h .group;
-      time = time;
-    }
-    ≡ viewWith s h chosen proper receiving time
-unfolding viewWith
-view-made s h chosen proper receiving time incoming prohibited here e f g = rw (e, f, g)
+      pub incoming-known : (i : Interface) → (r .incoming ≡ unknown → ⊥) → i ≡ interfaceOf F s (r .incoming) → Known i ≡ incomingFor F s chosen
+      unfolding incomingFor
+      incoming-known i e f = rw (found, ne-eqb (r .incoming) unknown e, f)
 
--- a message without room
-pub full-sent : (m : List ℕ) (h : Header) (last : ℕ) (here : Interface) (o n o1 n1 : List ℕ) (k : Note) → h ≡ headerOf m → last ≡ lastStandard m
-    → o1 ≡ splice o 0 (set (set m 0 reply) (last + codeOffset) codeNoSpace) → k ≡ noteHome h (length m) (here .address) → n1 ≡ splice n 0 (noteBytes k)
-    → Written (goesHome h (here .address) (fullMessage m)) o n sentHome o1 n1
-full-sent m h last here o n o1 n1 k e f g p q =
-    record { says = refl; sends = rw (g, f); notes = rw (q, p) (simp (length-set, length-set)) }
+      pub incoming-there : (r .incoming ≡ unknown → ⊥) → RouteThere (layoutOf F s .interfaces) chosen → r .incoming < layoutOf F s .interfaces
+      incoming-there e there = (rw found at there) e
 
--- a message with room: home, or on
-module _ (m : List ℕ) (v : View) (h : Header) (used : ℕ) (header : h ≡ headerOf m) (count : used ≡ hopsUsed m) (b : Block) (block : b ≡ blockOf v) (x : Bool)
-    (told : x ≡ endsTrace v (used + 1) (h .hops)) (o n o1 n1 : List ℕ) (k : Note) (noted : n1 ≡ splice n 0 (noteBytes k)) where
-  answer-home : x ≡ true → longerAnswer m v ≡ goesHome (headerOf m) (v .here .address) (longerMessage reply m (blockOf v))
-  unfolding longerAnswer
-  answer-home e = rw (← count, ← header, ← told, e)
+    pub incoming-none : chosen ≡ Nothing → Unknown ≡ incomingFor F s chosen
+    unfolding incomingFor
+    incoming-none none = rw none
 
-  pub home-sent : (kind : ℕ) → x ≡ true → kind ≡ kindSent x → o1 ≡ splice o 0 (longerMessage kind m b)
-      → k ≡ noteHome h (length m + standardSize) (v .here .address)
-      → Written (longerAnswer m v) o n sentHome o1 n1
-  home-sent kind e d f g =
-      rw (answer-home e)
-      (record { says = refl; sends = rw (f, d, e, block); notes = rw (noted, g, header, longer-length reply m (blockOf v)) })
+  -- a sheet with an interface is valid, and has a first block
+  pub switches-here : (s : List ℕ) (receiving : ℕ) → receiving < layoutOf F s .interfaces → blockSize ≤ length s
+  switches-here s receiving h = valid-long F s (valid-told F s ∙ interface-valid F s receiving h)
 
-  answer-on : x ≡ false → longerAnswer m v ≡ goesOn v (longerMessage request m (blockOf v))
-  unfolding longerAnswer
-  answer-on e = rw (← count, ← header, ← told, e)
+  -- the view, field by field
+  pub view-made : (s : List ℕ) (h : Header) (chosen : Chosen) (proper : Bool) (receiving time : ℕ) (incoming : Incoming) (prohibited : Bool) (here : Interface)
+      → incoming ≡ incomingFor F s chosen → prohibited ≡ prohibitedOf s → here ≡ interfaceOf F s receiving
+      → record {
+        query = eqb (h .kind) query;
+        proper = proper;
+        chosen = chosen;
+        incoming = incoming;
+        prohibited = prohibited;
+        number = receiving;
+        here = here;
+        group = h .group;
+        time = time;
+      }
+      ≡ viewWith F s h chosen proper receiving time
+  unfolding viewWith
+  view-made s h chosen proper receiving time incoming prohibited here e f g = rw (e, f, g)
 
-  pub on-sent : (kind : ℕ) → x ≡ false → kind ≡ kindSent x → o1 ≡ splice o 0 (longerMessage kind m b)
-      → k ≡ noteOn (v .chosen) (v .incoming) (length m + standardSize)
-      → Written (longerAnswer m v) o n sentOn o1 n1
-  on-sent kind e d f g =
-      rw (answer-on e)
-      (record { says = refl; sends = rw (f, d, e, block); notes = rw (noted, g, longer-length request m (blockOf v)) })
+  -- a message without room
+  pub full-sent : (m : List ℕ) (h : Header) (last : ℕ) (here : Interface) (o n o1 n1 : List ℕ) (k : Note) → h ≡ headerOf m → last ≡ lastStandard F m
+      → o1 ≡ splice o 0 (set (set m 0 reply) (last + F.code) codeNoSpace) → k ≡ noteHome h (length m) (here .address) → n1 ≡ splice n 0 (noteBytes k)
+      → Written (goesHome h (here .address) (fullMessage F m)) o n sentHome o1 n1
+  full-sent m h last here o n o1 n1 k e f g p q =
+      record { says = refl; sends = rw (g, f); notes = rw (q, p) (simp (length-set, length-set)) }
+
+  -- with room there is place for a block behind a message
+  pub longer-fits : (m : List ℕ) (h : Header) (used : ℕ) (v : View) (b : Block) (output note : ℕ) → Writes F → WithRoom F m h used v output note
+      → (0 < length m) × (length m + length (blockBytes b) ≤ output)
+  longer-fits m h used v b output note writes ready = (ready .some, rw (writes .standard b .long) (omega (arith, ready .room, ready .output-room)))
+
+  -- a message with room: home, or on
+  module _ (m : List ℕ) (v : View) (h : Header) (used : ℕ) (header : h ≡ headerOf m) (count : used ≡ hopsUsed F m) (b : Block) (block : b ≡ blockOf v) (x : Bool)
+      (told : x ≡ endsTrace v (used + 1) (h .hops)) (o n o1 n1 : List ℕ) (k : Note) (noted : n1 ≡ splice n 0 (noteBytes k)) where
+    answer-home : x ≡ true → longerAnswer F m v ≡ goesHome (headerOf m) (v .here .address) (longerMessage reply m (blockOf v))
+    unfolding longerAnswer
+    answer-home e = rw (← count, ← header, ← told, e)
+
+    pub home-sent : Writes F → (kind : ℕ) → x ≡ true → kind ≡ kindSent x → o1 ≡ splice o 0 (longerMessage kind m b)
+        → k ≡ noteHome h (length m + F.block) (v .here .address)
+        → Written (longerAnswer F m v) o n sentHome o1 n1
+    home-sent writes kind e d f g =
+        rw (answer-home e)
+        (record { says = refl; sends = rw (f, d, e, block); notes = rw (noted, g, header, longer-length writes reply m (blockOf v)) })
+
+    answer-on : x ≡ false → longerAnswer F m v ≡ goesOn v (longerMessage request m (blockOf v))
+    unfolding longerAnswer
+    answer-on e = rw (← count, ← header, ← told, e)
+
+    pub on-sent : Writes F → (kind : ℕ) → x ≡ false → kind ≡ kindSent x → o1 ≡ splice o 0 (longerMessage kind m b)
+        → k ≡ noteOn (v .chosen) (v .incoming) (length m + F.block)
+        → Written (longerAnswer F m v) o n sentOn o1 n1
+    on-sent writes kind e d f g =
+        rw (answer-on e)
+        (record { says = refl; sends = rw (f, d, e, block); notes = rw (noted, g, longer-length writes request m (blockOf v)) })

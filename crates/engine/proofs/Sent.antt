@@ -9,7 +9,7 @@ use native.Mathlib.Omega.{arith}
 use borrow.Author.Tests.{ltb-true, ltb-false}
 use lib.ListN.{length, set, length-set, length-append}
 use lib.Seq.{getD-append-add, set-append-left}
-use Rattle.wire.specs.Numbers.{byteAt, be, bytes}
+use Rattle.wire.specs.Numbers.{byteAt}
 use Rattle.rows.proofs.Laws.{cond-cases, none-is, first-is}
 use Rattle.sheet.specs.Tables.{interfaceOf}
 use Rattle.route.specs.declared.Chosen.the-variants.{Nothing}
@@ -18,11 +18,10 @@ use Rattle.response.specs.declared.Block.{Block}
 use Rattle.response.specs.Code.{wrongLastHop, codeOf, codeNoSpace, codeWrongLastHop}
 use Rattle.response.specs.Fill.{blockOf, endsTrace}
 use Rattle.response.specs.Bytes.{blockBytes}
-use Rattle.response.proofs.Laws.{block-length, no-route-ends, hidden-no-route}
-use Rattle.message.specs.Format.{most, request, reply, standardSize, codeOffset}
+use Rattle.response.proofs.Laws.{no-route-ends, hidden-no-route}
+use Rattle.message.specs.Format.{request, reply}
 use Rattle.message.specs.Header.{headerOf}
 use Rattle.message.specs.Blocks.{lastStandard}
-use Rattle.message.specs.Inside.{StandardBlock}
 use Rattle.message.proofs.Laws.{Accepted}
 use Rattle.drops.specs.Arrival.{Arrival, routeFor}
 use Rattle.message.specs.Room.{isFull, Full, HasRoom, hopsUsed}
@@ -31,92 +30,108 @@ use Rattle.rows.specs.Rows.{NoneApplies, IsFirst}
 use Rattle.engine.specs.View.{viewWith, viewOf}
 use Rattle.engine.specs.Answer.{Sent, sentOn, sentHome, goesHome, goesOn, fullMessage, longerMessage, longerAnswer, sentBy}
 use Rattle.engine.specs.Step.{outcome, answeredBy, stepOf}
+use Rattle.format.specs.declared.Format.{Format}
+use Rattle.response.specs.Inside.{Writes}
+use Rattle.engine.specs.Room.{roomWith, roomFor}
 
--- a drop returns its number and changes nothing lent; anything else is answered by what is sent
-module _ (a : Arrival) (time : ℕ) (sheet recent output note : List ℕ) where
-  pub drop-changes-nothing : (n : ℕ) → IsFirst (table a sheet recent (length output) (length note)) n
-      → stepOf a time sheet recent output note ≡ outcome n recent output note
-  unfolding stepOf
-  drop-changes-nothing n f = first-is (λ number. outcome number recent output note) _ _ n f
+-- a message with a type written and a block behind it, as the laws of messages have it: the block is appended, then the type written
+pub longer-as : (kind : ℕ) (m : List ℕ) (b : Block) → 0 < length m → longerMessage kind m b ≡ set (m ++ blockBytes b) 0 kind
+unfolding longerMessage
+longer-as kind m b some = sym (set-append-left m (blockBytes b) 0 kind some)
 
-  pub taken-is-sent : NoneApplies (table a sheet recent (length output) (length note))
-      → stepOf a time sheet recent output note ≡ answeredBy (sentBy a time sheet) (headerOf (a .message)) recent output note
-  unfolding stepOf
-  taken-is-sent none = none-is (λ number. outcome number recent output note) _ _ none
+module _ (F : Format) where
+  -- a drop returns its number and changes nothing lent; anything else is answered by what is sent
+  module _ (a : Arrival) (time : ℕ) (sheet recent output note : List ℕ) where
+    pub drop-changes-nothing : (n : ℕ) → IsFirst (table F a sheet recent (length output) (length note)) n
+        → stepOf F a time sheet recent output note ≡ outcome n recent output note
+    unfolding stepOf
+    drop-changes-nothing n f = first-is (λ number. outcome number recent output note) _ _ n f
 
--- a message with a type written and a block behind it
-module _ (kind : ℕ) (m : List ℕ) (b : Block) where
-  pub longer-length : length (longerMessage kind m b) ≡ length m + standardSize
-  unfolding longerMessage
-  longer-length = rw (length-append (set m 0 kind) (blockBytes b), length-set m 0 kind, block-length b)
+    pub taken-is-sent : NoneApplies (table F a sheet recent (length output) (length note))
+        → stepOf F a time sheet recent output note ≡ answeredBy (sentBy F a time sheet) (headerOf (a .message)) recent output note
+    unfolding stepOf
+    taken-is-sent none = none-is (λ number. outcome number recent output note) _ _ none
 
-  longer-code : byteAt (longerMessage kind m b) (length m + codeOffset) ≡ b .code
-  unfolding longerMessage blockBytes bytes
-  longer-code =
-      rw (← length-set m 0 kind) (getD-append-add (set m 0 kind) (blockBytes b) codeOffset 0)
+  -- no link has room for more than the longest message
+  pub room-most : (a : Arrival) (sheet : List ℕ) → roomFor F a sheet ≤ F.most
+  unfolding roomWith
+  room-most a sheet = omega arith
 
-  -- as the laws of messages have it: the block is appended, then the type written
-  pub longer-as : 0 < length m → longerMessage kind m b ≡ set (m ++ blockBytes b) 0 kind
-  unfolding longerMessage
-  longer-as some = sym (set-append-left m (blockBytes b) 0 kind some)
+  -- the three ways to answer: without room, with the block home, with the block on. What holds of each holds of what is sent
+  module _ (a : Arrival) (time : ℕ) (sheet : List ℕ) where
+    abbrev m : List ℕ
+    m = a .message
 
-pub block-standard : (b : Block) → StandardBlock (blockBytes b)
-unfolding blockBytes be bytes
-block-standard b = record { long = refl; kind = refl; size = refl }
+    abbrev view : View
+    view = viewOf F a time sheet
 
--- the three ways to answer: without room, with the block home, with the block on. What holds of each holds of what is sent
-module _ (a : Arrival) (time : ℕ) (sheet : List ℕ) where
-  abbrev m : List ℕ
-  m = a .message
+    abbrev block : Block
+    block = blockOf view
 
-  abbrev view : View
-  view = viewOf a time sheet
+    abbrev room : ℕ
+    room = roomFor F a sheet
 
-  abbrev block : Block
-  block = blockOf view
+    pub sent-cases : (P : Sent → Type 0)
+        → (Full F room m → P (goesHome (headerOf m) (interfaceOf F sheet (a .receiving) .address) (fullMessage F m)))
+        → (HasRoom F room m → endsTrace view (hopsUsed F m + 1) (headerOf m .hops) ≡ true
+        → P (goesHome (headerOf m) (view .here .address) (longerMessage reply m block)))
+        → (HasRoom F room m → endsTrace view (hopsUsed F m + 1) (headerOf m .hops) ≡ false → P (goesOn view (longerMessage request m block)))
+        → P (sentBy F a time sheet)
+    unfolding sentBy longerAnswer
+    sent-cases P full last next =
+        cond-cases P (isFull F room m) _ _ (λ e. full (ltb-true room (length m + F.block) e))
+        (λ e.
+        let fits = ltb-false room (length m + F.block) e in
+        cond-cases P (endsTrace view (hopsUsed F m + 1) (headerOf m .hops)) _ _ (last fits) (next fits))
 
-  pub sent-cases : (P : Sent → Type 0)
-      → (Full m → P (goesHome (headerOf m) (interfaceOf sheet (a .receiving) .address) (fullMessage m)))
-      → (HasRoom m → endsTrace view (hopsUsed m + 1) (headerOf m .hops) ≡ true
-      → P (goesHome (headerOf m) (view .here .address) (longerMessage reply m block)))
-      → (HasRoom m → endsTrace view (hopsUsed m + 1) (headerOf m .hops) ≡ false → P (goesOn view (longerMessage request m block)))
-      → P (sentBy a time sheet)
-  unfolding sentBy longerAnswer
-  sent-cases P full last next =
-      cond-cases P (isFull m) _ _ (λ e. full (ltb-true most (length m + standardSize) e))
-      (λ e.
-      let room = ltb-false most (length m + standardSize) e in
-      cond-cases P (endsTrace view (hopsUsed m + 1) (headerOf m .hops)) _ _ (last room) (next room))
+    -- 100 or 101
+    pub sent-answer : (sentBy F a time sheet .answer ≡ sentOn) ⊎ (sentBy F a time sheet .answer ≡ sentHome)
+    sent-answer =
+        sent-cases (λ (s : Sent). (s .answer ≡ sentOn) ⊎ (s .answer ≡ sentHome)) (λ h. inr refl) (λ h e. inr refl) (λ h e. inl refl)
 
-  -- 100 or 101
-  pub sent-answer : (sentBy a time sheet .answer ≡ sentOn) ⊎ (sentBy a time sheet .answer ≡ sentHome)
-  sent-answer =
-      sent-cases (λ (s : Sent). (s .answer ≡ sentOn) ⊎ (s .answer ≡ sentHome)) (λ h. inr refl) (λ h e. inr refl) (λ h e. inl refl)
+    -- without a route the trace ends
+    module _ (none : routeFor F sheet (headerOf m) ≡ Nothing) where
+      pub no-route-home : sentBy F a time sheet .answer ≡ sentHome
+      unfolding viewWith
+      no-route-home =
+          sent-cases (λ (s : Sent). s .answer ≡ sentHome) (λ h. refl) (λ h e. refl)
+          (λ h e. let z : _≡_ {A = Bool} true false = sym (no-route-ends view (hopsUsed F m + 1) (headerOf m .hops) none) ∙ e in
+          let w : _≡_ {A = ℕ} 0 1 = cc in absurd (omega arith))
 
-  -- with room, the code behind the message is this router's
-  sent-code : HasRoom m → byteAt (sentBy a time sheet .message) (length m + codeOffset) ≡ codeOf view
-  unfolding blockOf
-  sent-code room =
-      sent-cases (λ (s : Sent). byteAt (s .message) (length m + codeOffset) ≡ codeOf view)
-      (λ h. absurd (omega arith)) (λ h e. longer-code reply m block) (λ h e. longer-code request m block)
+-- what is written is a block of the format
+module _ {F : Format} (writes : Writes F) where
+  -- the length of a message with a block behind it, and its code
+  module _ (kind : ℕ) (m : List ℕ) (b : Block) where
+    pub longer-length : length (longerMessage kind m b) ≡ length m + F.block
+    unfolding longerMessage
+    longer-length = rw (length-append (set m 0 kind) (blockBytes b), length-set m 0 kind, writes .standard b .long)
 
-  -- without a route the trace ends, also where WRONG_LAST_HOP hides NO_ROUTE
-  module _ (none : routeFor sheet (headerOf m) ≡ Nothing) where
-    pub no-route-home : sentBy a time sheet .answer ≡ sentHome
+    longer-code : byteAt (longerMessage kind m b) (length m + F.code) ≡ b .code
+    unfolding longerMessage
+    longer-code =
+        rw (← length-set m 0 kind, getD-append-add (set m 0 kind) (blockBytes b) F.code 0) (writes .code b)
+
+  module _ (a : Arrival) (time : ℕ) (sheet : List ℕ) where
+    -- with room, the code behind the message is this router's
+    sent-code : HasRoom F (roomFor F a sheet) (a .message) → byteAt (sentBy F a time sheet .message) (length (a .message) + F.code) ≡ codeOf (viewOf F a time sheet)
+    unfolding blockOf
+    sent-code fits =
+        let b = blockOf (viewOf F a time sheet) in
+        sent-cases F a time sheet (λ (s : Sent). byteAt (s .message) (length (a .message) + F.code) ≡ codeOf (viewOf F a time sheet))
+        (λ h. absurd (omega arith)) (λ h e. longer-code reply (a .message) b) (λ h e. longer-code request (a .message) b)
+
+    -- WRONG_LAST_HOP hides NO_ROUTE, and the trace ends
+    pub hidden-no-route-home : routeFor F sheet (headerOf (a .message)) ≡ Nothing → HasRoom F (roomFor F a sheet) (a .message) → wrongLastHop (viewOf F a time sheet) ≡ true
+        → (byteAt (sentBy F a time sheet .message) (length (a .message) + F.code) ≡ codeWrongLastHop) × (sentBy F a time sheet .answer ≡ sentHome)
     unfolding viewWith
-    no-route-home =
-        sent-cases (λ (s : Sent). s .answer ≡ sentHome) (λ h. refl) (λ h e. refl)
-        (λ h e. let z : _≡_ {A = Bool} true false = sym (no-route-ends view (hopsUsed m + 1) (headerOf m .hops) none) ∙ e in
-        let w : _≡_ {A = ℕ} 0 1 = cc in absurd (omega arith))
+    hidden-no-route-home none fits wrong = (sent-code fits ∙ hidden-no-route (viewOf F a time sheet) none wrong, no-route-home F a time sheet none)
 
-    pub hidden-no-route-home : HasRoom m → wrongLastHop view ≡ true
-        → (byteAt (sentBy a time sheet .message) (length m + codeOffset) ≡ codeWrongLastHop) × (sentBy a time sheet .answer ≡ sentHome)
-    unfolding viewWith
-    hidden-no-route-home room wrong = (sent-code room ∙ hidden-no-route view none wrong, no-route-home)
-
-  -- what is sent for an accepted message fits
-  pub sent-fits : Accepted m → length (sentBy a time sheet .message) ≤ most
-  sent-fits accepts =
-      sent-cases (λ (s : Sent). length (s .message) ≤ most)
-      (λ h. rw (length-set (set m 0 reply) (lastStandard m + codeOffset) codeNoSpace, length-set m 0 reply) (accepts .high))
-      (λ h e. rw (longer-length reply m block) h) (λ h e. rw (longer-length request m block) h)
+    -- what is sent for an accepted message fits
+    pub sent-fits : Accepted F (a .message) → length (sentBy F a time sheet .message) ≤ F.most
+    sent-fits accepts =
+        let m = a .message in
+        let b = blockOf (viewOf F a time sheet) in
+        sent-cases F a time sheet (λ (s : Sent). length (s .message) ≤ F.most)
+        (λ h. rw (length-set (set m 0 reply) (lastStandard F m + F.code) codeNoSpace, length-set m 0 reply) (accepts .high))
+        (λ h e. rw (longer-length reply m b) (omega (arith, room-most F a sheet)))
+        (λ h e. rw (longer-length request m b) (omega (arith, room-most F a sheet)))

@@ -13,23 +13,19 @@ use Rattle.response.specs.declared.Block.{Block}
 use Rattle.response.specs.declared.Note.{Note}
 use Rattle.response.specs.Bytes.{blockBytes, noteBytes}
 use Rattle.message.specs.declared.Header.{Header}
-use Rattle.message.specs.Format.{query, reply, standardSize, codeOffset}
+use Rattle.message.specs.Format.{query, reply}
 use Rattle.response.specs.Code.{codeNoSpace}
 use Rattle.engine.specs.Answer.{longerMessage}
 use Rattle.engine.specs.Step.{recentAfter}
+use Rattle.format.specs.declared.Format.{Format}
+use Rattle.format.specs.Sizes.{Sound}
 
 -- a store within what was written at the front
 set-front : (o xs : List ℕ) (i v : ℕ) → i < length xs → set (splice o 0 xs) i v ≡ splice o 0 (set xs i v)
 set-front o xs i v h = rw (splice-front, splice-front) (simp (length-set, set-append-left))
 
--- the message, its type and one byte more
-pub full-written : (m o o1 : List ℕ) (last : ℕ) → last + standardSize ≤ length m → o1 ≡ splice o 0 m
-    → set (set o1 0 reply) (last + codeOffset) codeNoSpace ≡ splice o 0 (set (set m 0 reply) (last + codeOffset) codeNoSpace)
-full-written m o o1 last h e =
-    rw (e, set-front o m 0 reply (omega arith)) (set-front o (set m 0 reply) (last + codeOffset) codeNoSpace (simp length-set (omega arith)))
-
 -- the message, its type, and a block behind it
-pub longer-written : (m o o1 o2 bytes : List ℕ) (kind : ℕ) (b : Block) → 0 < length m → length m + standardSize ≤ length o → bytes ≡ blockBytes b
+pub longer-written : (m o o1 o2 bytes : List ℕ) (kind : ℕ) (b : Block) → 0 < length m → length m + length (blockBytes b) ≤ length o → bytes ≡ blockBytes b
     → o1 ≡ splice o 0 m → o2 ≡ splice (set o1 0 kind) (length m) bytes → o2 ≡ splice o 0 (longerMessage kind m b)
 unfolding longerMessage
 longer-written m o o1 o2 bytes kind b some room e f g =
@@ -51,3 +47,10 @@ query-entered h r r1 q e = rw (eq-eqb (h .kind) query q) e
 pub request-kept : (h : Header) (r : List ℕ) → (h .kind ≡ query → ⊥) → r ≡ recentAfter h r
 unfolding recentAfter
 request-kept h r q = rw (ne-eqb (h .kind) query q)
+
+module _ {F : Format} (sound : Sound F) where
+  -- the message, its type and one byte more
+  pub full-written : (m o o1 : List ℕ) (last : ℕ) → last + F.block ≤ length m → o1 ≡ splice o 0 m
+      → set (set o1 0 reply) (last + F.code) codeNoSpace ≡ splice o 0 (set (set m 0 reply) (last + F.code) codeNoSpace)
+  full-written m o o1 last h e =
+      rw (e, set-front o m 0 reply (omega arith)) (set-front o (set m 0 reply) (last + F.code) codeNoSpace (simp length-set (omega arith)))

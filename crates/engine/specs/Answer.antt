@@ -15,12 +15,14 @@ use Rattle.response.specs.Code.{codeNoSpace}
 use Rattle.response.specs.Fill.{upstreamOf, blockOf, endsTrace}
 use Rattle.response.specs.Bytes.{blockBytes}
 use Rattle.message.specs.declared.Header.{Header}
-use Rattle.message.specs.Format.{request, reply, codeOffset}
+use Rattle.message.specs.Format.{request, reply}
 use Rattle.message.specs.Header.{headerOf}
 use Rattle.message.specs.Blocks.{lastStandard}
 use Rattle.message.specs.Room.{isFull, hopsUsed}
 use Rattle.drops.specs.Arrival.{Arrival}
 use Rattle.engine.specs.View.{viewOf}
+use Rattle.engine.specs.Room.{roomFor}
+use Rattle.format.specs.declared.Format.{Format}
 
 -- the answers: 100 is a Request sent on, 101 a Reply
 abbrev pub sentOn : ℕ
@@ -62,26 +64,26 @@ goesHome h source message = record { answer = sentHome; message = message; note 
 abbrev pub goesOn : View → List ℕ → Sent
 goesOn v message = record { answer = sentOn; message = message; note = noteOn (v .chosen) (v .incoming) (length message) }
 
--- 1. there is no room: copy, type 3, code 0x81 in the last type 4 block
-abbrev pub fullMessage : List ℕ → List ℕ
-fullMessage m = set (set m 0 reply) (lastStandard m + codeOffset) codeNoSpace
+-- 1. there is no room on the link: copy, type 3, code 0x81 in the last type 4 block. It goes home as long as it came
+abbrev pub fullMessage : Format → List ℕ → List ℕ
+fullMessage F m = set (set m 0 reply) (lastStandard F m + F.code) codeNoSpace
 
 -- 2. to 4. the message with its type and this router's block appended
 unfoldable pub longerMessage : ℕ → List ℕ → Block → List ℕ
 longerMessage kind m b = set m 0 kind ++ blockBytes b
 
 -- 5. with one hop more used: a Reply home, or the Request on
-unfoldable pub longerAnswer : List ℕ → View → Sent
-longerAnswer m v =
+unfoldable pub longerAnswer : Format → List ℕ → View → Sent
+longerAnswer F m v =
     let h = headerOf m in
     let last = goesHome h (v .here .address) (longerMessage reply m (blockOf v)) in
     let next = goesOn v (longerMessage request m (blockOf v)) in
-    cond (endsTrace v (hopsUsed m + 1) (h .hops)) last next
+    cond (endsTrace v (hopsUsed F m + 1) (h .hops)) last next
 
 -- what is sent: step 1 where there is no room, else steps 2 to 5
-unfoldable pub sentBy : Arrival → ℕ → List ℕ → Sent
-sentBy a time sheet =
+unfoldable pub sentBy : Format → Arrival → ℕ → List ℕ → Sent
+sentBy F a time sheet =
     let m = a .message in
-    let full = goesHome (headerOf m) (interfaceOf sheet (a .receiving) .address) (fullMessage m) in
-    let longer = longerAnswer m (viewOf a time sheet) in
-    cond (isFull m) full longer
+    let full = goesHome (headerOf m) (interfaceOf F sheet (a .receiving) .address) (fullMessage F m) in
+    let longer = longerAnswer F m (viewOf F a time sheet) in
+    cond (isFull F (roomFor F a sheet) m) full longer

@@ -13,6 +13,7 @@ use Rattle.message.specs.Header.{headerOf}
 use Rattle.drops.specs.Arrival.{Arrival, isQuery}
 use Rattle.drops.specs.Drop.{table}
 use Rattle.engine.specs.Answer.{Sent, sentBy}
+use Rattle.format.specs.declared.Format.{Format}
 
 -- the answer, and the recent list, the output and the answer record as they are left
 pub record Outcome : Type 0 where
@@ -35,12 +36,12 @@ answeredBy sent h recent output note =
     outcome (sent .answer) (recentAfter h recent) (splice output 0 (sent .message)) (splice note 0 (noteBytes (sent .note)))
 
 -- where a row of the drop table applies, the first one's number, and nothing lent is changed; else the answer
-unfoldable pub stepOf : Arrival → ℕ → List ℕ → List ℕ → List ℕ → List ℕ → Outcome
-stepOf a time sheet recent output note =
+unfoldable pub stepOf : Format → Arrival → ℕ → List ℕ → List ℕ → List ℕ → List ℕ → Outcome
+stepOf F a time sheet recent output note =
     byFirst (λ number. outcome number recent output note)
-    (answeredBy (sentBy a time sheet) (headerOf (a .message)) recent output note)
-    (table a sheet recent (length output) (length note))
+    (answeredBy (sentBy F a time sheet) (headerOf (a .message)) recent output note)
+    (table F a sheet recent (length output) (length note))
 
 -- what the step promises: its outcome is that one
-abbrev pub StepMeets : Arrival → ℕ → List ℕ → List ℕ → List ℕ → List ℕ → Outcome → Type 0
-StepMeets a time sheet recent output note o = o ≡ stepOf a time sheet recent output note
+abbrev pub StepMeets : Format → Arrival → ℕ → List ℕ → List ℕ → List ℕ → List ℕ → Outcome → Type 0
+StepMeets F a time sheet recent output note o = o ≡ stepOf F a time sheet recent output note

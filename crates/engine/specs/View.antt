@@ -3,7 +3,7 @@ use Prim.Native.Nat.{ℕ}
 use mathlib.Core.Bool.{Bool, cond}
 use mathlib.Core.List.{List}
 use lib.Dec.{eqb}
-use Rattle.entry.specs.Route.{unknown}
+use Rattle.route_entry.specs.Route.{unknown}
 use Rattle.sheet.specs.Tables.{interfaceOf, prohibitedOf}
 use Rattle.route.specs.declared.Chosen.{Chosen}
 use Rattle.route.specs.declared.Chosen.the-variants.{Found, Nothing}
@@ -13,31 +13,32 @@ use Rattle.response.specs.declared.Incoming.the-variants.{Known, Unknown}
 use Rattle.message.specs.declared.Header.{Header}
 use Rattle.message.specs.Header.{headerOf}
 use Rattle.drops.specs.Arrival.{Arrival, isQuery, routeFor, lastHopFor}
+use Rattle.format.specs.declared.Format.{Format}
 
 -- the incoming interface that a route names, where it is known
-unfoldable pub incomingFor : List ℕ → Chosen → Incoming
-incomingFor sheet Nothing = Unknown
-incomingFor sheet (Found r) =
-    let known = Known (interfaceOf sheet (r .incoming)) in
+unfoldable pub incomingFor : Format → List ℕ → Chosen → Incoming
+incomingFor F sheet Nothing = Unknown
+incomingFor F sheet (Found r) =
+    let known = Known (interfaceOf F sheet (r .incoming)) in
     cond (eqb (r .incoming) unknown) Unknown known
 
 -- what the router looks at, for a header that came in on an interface at a time, with the route for it
-unfoldable pub viewWith : List ℕ → Header → Chosen → Bool → ℕ → ℕ → View
-viewWith sheet h chosen proper receiving time =
+unfoldable pub viewWith : Format → List ℕ → Header → Chosen → Bool → ℕ → ℕ → View
+viewWith F sheet h chosen proper receiving time =
     record {
       query = isQuery h;
       proper = proper;
       chosen = chosen;
-      incoming = incomingFor sheet chosen;
+      incoming = incomingFor F sheet chosen;
       prohibited = prohibitedOf sheet;
       number = receiving;
-      here = interfaceOf sheet receiving;
+      here = interfaceOf F sheet receiving;
       group = h .group;
       time = time;
     }
 
 -- the same of what arrived
-abbrev pub viewOf : Arrival → ℕ → List ℕ → View
-viewOf a time sheet =
+abbrev pub viewOf : Format → Arrival → ℕ → List ℕ → View
+viewOf F a time sheet =
     let h = headerOf (a .message) in
-    viewWith sheet h (routeFor sheet h) (lastHopFor sheet h) (a .receiving) time
+    viewWith F sheet h (routeFor F sheet h) (lastHopFor F sheet h) (a .receiving) time

@@ -1,25 +1,30 @@
 // One router's step: what arrives is dropped by its number, or answered by the Request sent on or the Reply sent home.
 use drops::Verdict;
-use entry::Interface;
+use format::Format;
+use interface::Interface;
 use message::Header;
 use response::Block;
 use response::Incoming;
 use response::Note;
 use response::View;
 use route::Chosen;
+use sheet::Layout;
 ghost use mathlib.Core.Path.{_≡_};
 ghost use Prim.Native.Nat.{_+_, _≤_, _<_};
 ghost use lib.ListN.{length, set};
 ghost use Rattle.wire.specs.Parts.{splice};
+ghost use Rattle.format.specs.Sizes.{Sound, ipv4, outputSize};
 ghost use Rattle.recent.specs.Inside.{Formed};
 ghost use Rattle.sheet.specs.Sheet.{layoutOf};
 ghost use Rattle.response.specs.Code.{codeNoSpace};
-ghost use Rattle.message.specs.Format.{most, reply, standardSize, codeOffset, noteSize};
-ghost use Rattle.response.specs.Bytes.{noteBytes};
+ghost use Rattle.response.specs.Inside.{Writes};
+ghost use Rattle.message.specs.Format.{reply, noteSize};
+ghost use Rattle.response.specs.Bytes.{blockBytes, noteBytes};
 ghost use Rattle.rows.specs.Rows.{firstOf};
 ghost use Rattle.drops.specs.Arrival.{arrival};
 ghost use Rattle.drops.specs.Inside.{lentRows};
 ghost use Rattle.engine.specs.View.{incomingFor, viewWith};
+ghost use Rattle.engine.specs.Room.{linkOf};
 ghost use Rattle.engine.specs.Answer.{noteHome, noteOn, goesHome, fullMessage, longerMessage, longerAnswer};
 ghost use Rattle.engine.specs.Inside.{RouteThere, Written, WithRoom, WithoutRoom, Ready, kindSent, answered};
 ghost use Rattle.engine.specs.Step.{outcome, recentAfter, StepMeets};
@@ -35,34 +40,49 @@ const MTRACE_PORT: u16 = 33435;
 const ANY_INTERFACE: u16 = 65535;
 
 // The incoming interface that the route chosen names.
-fn incoming_for(sheet: &[u8], chosen: Chosen) -> Incoming
-    requires { ⌜ RouteThere (layoutOf (now sheet) .interfaces) chosen ⌝ }
-    ensures { λ r. ⌜ r ≡ incomingFor (now (sheet .entry)) chosen ⌝ }
+fn incoming_for(f: Format, sheet: &[u8], chosen: Chosen) -> Incoming
+    requires { ⌜ Sound f ⌝ }
+    requires { ⌜ RouteThere (layoutOf f (now sheet) .interfaces) chosen ⌝ }
+    ensures { λ r. ⌜ r ≡ incomingFor f (now (sheet .entry)) chosen ⌝ }
 {
     match chosen {
         Chosen::Found(r) => {
-            if r.incoming == entry::UNKNOWN {
+            if r.incoming == route_entry::UNKNOWN {
                 return Incoming::Unknown;
             }
-            Incoming::Known(sheet::interface(sheet, r.incoming as usize))
+            Incoming::Known(interface::interface_at(
+                sheet,
+                sheet::interface_place(f, r.incoming as usize),
+            ))
         }
         Chosen::Nothing => Incoming::Unknown,
     }
 }
 
+// The MTU of the link whose room counts: the incoming interface's, or the receiving one's where that is not known.
+fn link_mtu(incoming: Incoming, here: Interface) -> u16
+    ensures { λ r. ⌜ r ≡ linkOf incoming here .mtu ⌝ }
+{
+    match incoming {
+        Incoming::Known(i) => i.mtu,
+        Incoming::Unknown => here.mtu,
+    }
+}
+
 // No room: the message as a Reply, with 0x81 in its last type 4 block, which begins at `last`.
-fn write_full(message: &[u8], last: usize, output: &mut [u8])
-    requires { ⌜ (last + standardSize ≤ length (now message)) × (length (now message) ≤ length (now output)) ⌝ }
-    ensures { λ _. ⌜ now (output .exit) ≡ splice (now (output .entry)) 0 (set (set (now (message .entry)) 0 reply) (last + codeOffset) codeNoSpace) ⌝ }
+fn write_full(f: Format, message: &[u8], last: usize, output: &mut [u8])
+    requires { ⌜ Sound f ⌝ }
+    requires { ⌜ (last + f .block ≤ length (now message)) × (length (now message) ≤ length (now output)) ⌝ }
+    ensures { λ _. ⌜ now (output .exit) ≡ splice (now (output .entry)) 0 (set (set (now (message .entry)) 0 reply) (last + f .code) codeNoSpace) ⌝ }
 {
     wire::copy_to(output, 0, message);
     output[0] = message::REPLY;
-    output[last + message::CODE_OFFSET] = response::CODE_NO_SPACE;
+    output[last + f.code] = response::CODE_NO_SPACE;
 }
 
 // The message with its type, and a block behind it.
 fn write_longer(message: &[u8], kind: u8, block: Block, output: &mut [u8])
-    requires { ⌜ (0 < length (now message)) × (length (now message) + standardSize ≤ length (now output)) ⌝ }
+    requires { ⌜ (0 < length (now message)) × (length (now message) + length (blockBytes block) ≤ length (now output)) ⌝ }
     ensures { λ _. ⌜ now (output .exit) ≡ splice (now (output .entry)) 0 (longerMessage kind (now (message .entry)) block) ⌝ }
 {
     let bytes = response::block_bytes(block);
@@ -92,7 +112,7 @@ fn write_recent(h: Header, recent: &mut [u8])
 
 // The record of a Reply.
 fn note_home(h: Header, size: usize, source: u32) -> Note
-    requires { ⌜ size ≤ most ⌝ }
+    requires { ⌜ size ≤ outputSize ⌝ }
     ensures { λ n. ⌜ n ≡ noteHome h size source ⌝ }
 {
     Note {
@@ -106,7 +126,7 @@ fn note_home(h: Header, size: usize, source: u32) -> Note
 
 // The record of a Request sent on.
 fn note_on(chosen: Chosen, incoming: Incoming, size: usize) -> Note
-    requires { ⌜ size ≤ most ⌝ }
+    requires { ⌜ size ≤ outputSize ⌝ }
     ensures { λ n. ⌜ n ≡ noteOn chosen incoming size ⌝ }
 {
     match chosen {
@@ -129,6 +149,7 @@ fn note_on(chosen: Chosen, incoming: Incoming, size: usize) -> Note
 
 // What the router looks at when it answers.
 fn view_with(
+    f: Format,
     sheet: &[u8],
     h: Header,
     chosen: Chosen,
@@ -136,18 +157,19 @@ fn view_with(
     receiving: u32,
     time: u32,
 ) -> View
-    requires { ⌜ receiving < layoutOf (now sheet) .interfaces ⌝ }
-    requires { ⌜ RouteThere (layoutOf (now sheet) .interfaces) chosen ⌝ }
-    ensures { λ v. ⌜ v ≡ viewWith (now (sheet .entry)) h chosen proper receiving time ⌝ }
+    requires { ⌜ Sound f ⌝ }
+    requires { ⌜ receiving < layoutOf f (now sheet) .interfaces ⌝ }
+    requires { ⌜ RouteThere (layoutOf f (now sheet) .interfaces) chosen ⌝ }
+    ensures { λ v. ⌜ v ≡ viewWith f (now (sheet .entry)) h chosen proper receiving time ⌝ }
 {
     View {
         query: h.kind == message::QUERY,
         proper,
         chosen,
-        incoming: incoming_for(sheet, chosen),
+        incoming: incoming_for(f, sheet, chosen),
         prohibited: sheet::prohibited(sheet),
         number: receiving,
-        here: sheet::interface(sheet, receiving as usize),
+        here: interface::interface_at(sheet, sheet::interface_place(f, receiving as usize)),
         group: h.group,
         time,
     }
@@ -165,6 +187,7 @@ fn kind_sent(ends: bool) -> u8
 
 // There is room: the block is appended, and the message goes home or on.
 fn send_longer(
+    f: Format,
     message: &[u8],
     h: Header,
     used: usize,
@@ -172,11 +195,12 @@ fn send_longer(
     output: &mut [u8],
     note: &mut [u8],
 ) -> u32
-    requires { ⌜ WithRoom (now message) h used v (length (now output)) (length (now note)) ⌝ }
-    ensures { λ r. ⌜ Written (longerAnswer (now (message .entry)) v) (now (output .entry)) (now (note .entry)) r (now (output .exit)) (now (note .exit)) ⌝ }
+    requires { ⌜ Writes f ⌝ }
+    requires { ⌜ WithRoom f (now message) h used v (length (now output)) (length (now note)) ⌝ }
+    ensures { λ r. ⌜ Written (longerAnswer f (now (message .entry)) v) (now (output .entry)) (now (note .entry)) r (now (output .exit)) (now (note .exit)) ⌝ }
 {
     let block = response::block_of(v);
-    let size = message.len() + message::STANDARD_SIZE;
+    let size = message.len() + f.block;
     let ends = response::ends_trace(v, used as u32 + 1, h.hops as u32);
     write_longer(message, kind_sent(ends), block, output);
     if ends {
@@ -192,6 +216,7 @@ fn send_longer(
 
 // There is no room: the message goes home with 0x81.
 fn send_full(
+    f: Format,
     message: &[u8],
     h: Header,
     last: usize,
@@ -199,16 +224,18 @@ fn send_full(
     output: &mut [u8],
     note: &mut [u8],
 ) -> u32
-    requires { ⌜ WithoutRoom (now message) h last (length (now output)) (length (now note)) ⌝ }
-    ensures { λ r. ⌜ Written (goesHome h (here .address) (fullMessage (now (message .entry)))) (now (output .entry)) (now (note .entry)) r (now (output .exit)) (now (note .exit)) ⌝ }
+    requires { ⌜ Sound f ⌝ }
+    requires { ⌜ WithoutRoom f (now message) h last (length (now output)) (length (now note)) ⌝ }
+    ensures { λ r. ⌜ Written (goesHome h (here .address) (fullMessage f (now (message .entry)))) (now (output .entry)) (now (note .entry)) r (now (output .exit)) (now (note .exit)) ⌝ }
 {
-    write_full(message, last, output);
+    write_full(f, message, last, output);
     write_note(note_home(h, message.len(), here.address), note);
     SENT_HOME
 }
 
 // Answers a message that was accepted, and enters a Query.
 fn answer(
+    f: Format,
     message: &[u8],
     receiving: u32,
     time: u32,
@@ -218,23 +245,64 @@ fn answer(
     output: &mut [u8],
     note: &mut [u8],
 ) -> u32
-    requires { ⌜ Ready (now message) receiving v (now sheet) (now recent) (length (now output)) (length (now note)) ⌝ }
+    requires { ⌜ Sound f ⌝ }
+    requires { ⌜ Writes f ⌝ }
+    requires { ⌜ Ready f (now message) receiving v (now sheet) (now recent) (length (now output)) (length (now note)) ⌝ }
     ensures { λ r. ⌜ outcome r (now (recent .exit)) (now (output .exit)) (now (note .exit))
-        ≡ answered (now (message .entry)) receiving time v (now (sheet .entry)) (now (recent .entry)) (now (output .entry)) (now (note .entry)) ⌝ }
+        ≡ answered f (now (message .entry)) receiving time v (now (sheet .entry)) (now (recent .entry)) (now (output .entry)) (now (note .entry)) ⌝ }
 {
     let h = v.header;
     let blocks = v.blocks;
     write_recent(h, recent);
-    if message::MOST < message.len() + message::STANDARD_SIZE {
-        let here = sheet::interface(sheet, receiving as usize);
-        return send_full(message, h, blocks.last, here, output, note);
-    }
     let chosen = v.chosen;
-    let view = view_with(sheet, h, chosen, v.proper, receiving, time);
-    send_longer(message, h, blocks.count, view, output, note)
+    let view = view_with(f, sheet, h, chosen, v.proper, receiving, time);
+    let incoming = view.incoming;
+    let here = view.here;
+    if message::is_full(f, link_mtu(incoming, here), message.len()) {
+        return send_full(f, message, h, blocks.last, here, output, note);
+    }
+    send_longer(f, message, h, blocks.count, view, output, note)
 }
 
-// One router's step, where rows 1 and 2 do not apply: the first row from 3 on that applies, or the answer.
+// One router's step by the sizes of a format, where rows 1 and 2 do not apply: the first row from 3 on that applies, or the answer.
+// `layout` is what the check told of the sheet.
+fn step_by(
+    f: Format,
+    message: &[u8],
+    destination: u32,
+    receiving: u32,
+    ttl: u32,
+    time: u32,
+    sheet: &[u8],
+    layout: Layout,
+    recent: &mut [u8],
+    output: &mut [u8],
+    note: &mut [u8],
+) -> u32
+    requires { ⌜ Sound f ⌝ }
+    requires { ⌜ Writes f ⌝ }
+    requires { ⌜ layout ≡ layoutOf f (now sheet) ⌝ }
+    requires { ⌜ firstOf (lentRows (length (now output)) (length (now note)) (now recent)) ≡ 0 ⌝ }
+    ensures { λ r. ⌜ StepMeets f (arrival (now (message .entry)) destination receiving ttl) time (now (sheet .entry)) (now (recent .entry)) (now (output .entry)) (now (note .entry))
+        (outcome r (now (recent .exit)) (now (output .exit)) (now (note .exit))) ⌝ }
+{
+    let v = drops::judge(
+        f,
+        message,
+        destination,
+        receiving,
+        ttl,
+        sheet,
+        layout,
+        recent,
+    );
+    if v.number != 0 {
+        return v.number;
+    }
+    answer(f, message, receiving, time, v, sheet, recent, output, note)
+}
+
+// The same for IPv4. It is the one caller of the step by sizes, so that the compiler computes with the numbers themselves.
 pub fn step_lent(
     message: &[u8],
     destination: u32,
@@ -247,14 +315,23 @@ pub fn step_lent(
     note: &mut [u8],
 ) -> u32
     requires { ⌜ firstOf (lentRows (length (now output)) (length (now note)) (now recent)) ≡ 0 ⌝ }
-    ensures { λ r. ⌜ StepMeets (arrival (now (message .entry)) destination receiving ttl) time (now (sheet .entry)) (now (recent .entry)) (now (output .entry)) (now (note .entry))
+    ensures { λ r. ⌜ StepMeets ipv4 (arrival (now (message .entry)) destination receiving ttl) time (now (sheet .entry)) (now (recent .entry)) (now (output .entry)) (now (note .entry))
         (outcome r (now (recent .exit)) (now (output .exit)) (now (note .exit))) ⌝ }
 {
-    let v = drops::judge(message, destination, receiving, ttl, sheet, recent);
-    if v.number != 0 {
-        return v.number;
-    }
-    answer(message, receiving, time, v, sheet, recent, output, note)
+    let layout = sheet::check(sheet);
+    step_by(
+        format::IPV4,
+        message,
+        destination,
+        receiving,
+        ttl,
+        time,
+        sheet,
+        layout,
+        recent,
+        output,
+        note,
+    )
 }
 
 // One router's step. The answer is the drop number, and nothing lent is changed; or 100 for a Request sent on, or 101 for a
@@ -270,7 +347,7 @@ pub fn step(
     output: &mut [u8],
     note: &mut [u8],
 ) -> u32
-    ensures { λ r. ⌜ StepMeets (arrival (now (message .entry)) destination receiving ttl) time (now (sheet .entry)) (now (recent .entry)) (now (output .entry)) (now (note .entry))
+    ensures { λ r. ⌜ StepMeets ipv4 (arrival (now (message .entry)) destination receiving ttl) time (now (sheet .entry)) (now (recent .entry)) (now (output .entry)) (now (note .entry))
         (outcome r (now (recent .exit)) (now (output .exit)) (now (note .exit))) ⌝ }
 {
     let number = drops::lent_row(output.len(), note.len(), recent);

@@ -16,6 +16,7 @@ use Rattle.reply.specs.Reader.{standardsIn}
 use Rattle.reply.specs.Inside.{firstOr, Settled, FillsFrom}
 use Rattle.reply.proofs.Laws.{leftFrom, left-all, settled, settled-same, settled-forth, settled-high, settled-over, settled-inside, settled-more, fills-behind}
 use Rattle.loss.specs.Path.{sameRouter, samePath}
+use Rattle.format.specs.Sizes.{ipv4}
 
 -- a walk that has come to a place of each message: whether they are over one path is told by the blocks from here on
 pub record Along (s t : List ℕ) (at also : ℕ) : Type 0 where
@@ -41,7 +42,7 @@ module _ (s : List ℕ) (at : ℕ) (a : Settled s at) where
     left-more = ap (map (standardIn s)) (settled-more s at a before)
 
 module _ (s t : List ℕ) where
-  pub along-first : (at also : ℕ) → at ≡ firstOr (length s) (standardsFrom s headerSize) → also ≡ firstOr (length t) (standardsFrom t headerSize)
+  pub along-first : (at also : ℕ) → at ≡ firstOr (length s) (standardsFrom ipv4 s headerSize) → also ≡ firstOr (length t) (standardsFrom ipv4 t headerSize)
       → FillsFrom s at → FillsFrom t also → Along s t at also
   along-first at also e f g h =
       record {
@@ -78,8 +79,8 @@ module _ (s t : List ℕ) where
         pub along-parts : not f ≡ true → false ≡ samePath (standardsIn s) (standardsIn t)
         along-parts p = sym (told-here ∙ rw (sym e ∙ not-true f p))
 
-        pub along-on : (far also-far : ℕ) → not f ≡ false → far ≡ firstOr (length s) (standardsFrom s (at + standardSize))
-            → also-far ≡ firstOr (length t) (standardsFrom t (also + standardSize)) → FillsFrom s far → FillsFrom t also-far → Along s t far also-far
+        pub along-on : (far also-far : ℕ) → not f ≡ false → far ≡ firstOr (length s) (standardsFrom ipv4 s (at + standardSize))
+            → also-far ≡ firstOr (length t) (standardsFrom ipv4 t (also + standardSize)) → FillsFrom s far → FillsFrom t also-far → Along s t far also-far
         along-on far also-far p g h one-fills other-fills =
             record {
               one = settled s (at + standardSize) far g;
@@ -89,7 +90,7 @@ module _ (s t : List ℕ) where
               told = told-here ∙ rw (sym e ∙ not-false f p, settled-same s (at + standardSize) far g, settled-same t (also + standardSize) also-far h);
             }
 
-        pub along-less : (far : ℕ) → far ≡ firstOr (length s) (standardsFrom s (at + standardSize)) → length s - far < length s - at
+        pub along-less : (far : ℕ) → far ≡ firstOr (length s) (standardsFrom ipv4 s (at + standardSize)) → length s - far < length s - at
         along-less far g = omega (arith, low, settled-forth s (at + standardSize) far g (both-inside .0))
 
     -- one of them is at its end: they are over one path where both are

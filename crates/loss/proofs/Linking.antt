@@ -25,6 +25,7 @@ use Rattle.loss.specs.declared.Link.{Link}
 use Rattle.loss.specs.Link.{tallyOf, linkBytes}
 use Rattle.loss.specs.Loss.{linksFrom, linksOf, linksIn, linksBytes, linksSize}
 use Rattle.loss.specs.Inside.{linkSize, Linked, linkIn}
+use Rattle.format.specs.Sizes.{ipv4, ipv4-sound}
 
 -- a link has 32 bytes
 link-size : (l : Link) → length (linkBytes l) ≡ linkSize
@@ -40,12 +41,12 @@ module _ (s : List ℕ) where
     pub next : Settled s far
     pub fills : FillsFrom s far
 
-  module _ (near : ℕ) (l : Linked s) (e : near ≡ firstOr (length s) (standardsFrom s headerSize)) where
+  module _ (near : ℕ) (l : Linked s) (e : near ≡ firstOr (length s) (standardsFrom ipv4 s headerSize)) where
     near-low : near < length s
     near-low =
         ⊎-elim (λ t. ltb-true _ _ t)
         (λ t.
-        let none = sym (all-standards s ∙ sym (settled-same s headerSize near e) ∙ settled-over s near (settled s headerSize near e) (ltb-false _ _ t)) in
+        let none = sym (all-standards ipv4-sound s ∙ sym (settled-same s headerSize near e) ∙ settled-over s near (settled s headerSize near e) (ltb-false _ _ t)) in
         absurd (omega (arith, l .some, ap (λ (p : List ℕ). length p) none)))
         (decided (ltb near (length s)))
 
@@ -55,21 +56,21 @@ module _ (s : List ℕ) where
     pub near-inside : near + standardSize ≤ length s
     near-inside = settled-inside s near (settled s headerSize near e) near-low
 
-    module _ (far : ℕ) (f : far ≡ firstOr (length s) (standardsFrom s (near + standardSize))) where
+    module _ (far : ℕ) (f : far ≡ firstOr (length s) (standardsFrom ipv4 s (near + standardSize))) where
       pub behind-first : FillsFrom s far → Behind near far
       behind-first g = record { inside = near-inside; next = settled s (near + standardSize) far f; fills = g }
 
-      places-first : standards s ≡ near ∷ standardsFrom s far
+      places-first : standards ipv4 s ≡ near ∷ standardsFrom ipv4 s far
       places-first =
-          all-standards s ∙ sym (settled-same s headerSize near e) ∙ settled-more s near (settled s headerSize near e) near-low
+          all-standards ipv4-sound s ∙ sym (settled-same s headerSize near e) ∙ settled-more s near (settled s headerSize near e) near-low
           ∙ ap (λ (p : List ℕ). near ∷ p) (sym (settled-same s (near + standardSize) far f))
 
       pub blocks-first : standardsIn s ≡ standardIn s near ∷ leftFrom s far
-      blocks-first = sym (left-all s) ∙ ap (map (standardIn s)) (sym (all-standards s) ∙ places-first)
+      blocks-first = sym (left-all s) ∙ ap (map (standardIn s)) (sym (all-standards ipv4-sound s) ∙ places-first)
 
       -- the links of at most 27 blocks have room
-      pub room-first : length s ≤ most → linkSize * length (standardsFrom s far) ≤ linksSize
-      room-first h = omega (arith, standards-fit s (l .low), ap (λ (p : List ℕ). length p) places-first)
+      pub room-first : length s ≤ most → linkSize * length (standardsFrom ipv4 s far) ≤ linksSize
+      room-first h = omega (arith, standards-fit ipv4-sound s (l .low), ap (λ (p : List ℕ). length p) places-first)
 
   module _ (near far : ℕ) (b : Behind near far) (low : far < length s) where
     pub far-inside : far + standardSize ≤ length s
@@ -78,17 +79,17 @@ module _ (s : List ℕ) where
     pub far-behind : FillsFrom s (far + standardSize)
     far-behind = fills-behind s far (b .fills) (b .next) low
 
-    module _ (later : ℕ) (f : later ≡ firstOr (length s) (standardsFrom s (far + standardSize))) where
+    module _ (later : ℕ) (f : later ≡ firstOr (length s) (standardsFrom ipv4 s (far + standardSize))) where
       pub behind-on : FillsFrom s later → Behind far later
       behind-on g = record { inside = far-inside; next = settled s (far + standardSize) later f; fills = g }
 
-      places-on : standardsFrom s far ≡ far ∷ standardsFrom s later
+      places-on : standardsFrom ipv4 s far ≡ far ∷ standardsFrom ipv4 s later
       places-on = settled-more s far (b .next) low ∙ ap (λ (p : List ℕ). far ∷ p) (sym (settled-same s (far + standardSize) later f))
 
       pub blocks-on : leftFrom s far ≡ standardIn s far ∷ leftFrom s later
       blocks-on = ap (map (standardIn s)) places-on
 
-      pub fewer : length (standardsFrom s far) ≡ suc (length (standardsFrom s later))
+      pub fewer : length (standardsFrom ipv4 s far) ≡ suc (length (standardsFrom ipv4 s later))
       fewer = ap (λ (p : List ℕ). length p) places-on
 
       pub moves : length s - later < length s - far
@@ -120,14 +121,14 @@ module _ (s t before : List ℕ) where
   pub record Between (links : List ℕ) (near near′ far far′ at : ℕ) : Type 0 where
     pub one : Behind s near far
     pub other : Behind t near′ far′
-    pub room : at + linkSize * length (standardsFrom s far) ≤ linksSize
+    pub room : at + linkSize * length (standardsFrom ipv4 s far) ≤ linksSize
     pub long : linksSize ≤ length before
     pub same : length before ≡ length links
     pub left : splice before 0 (linksBytes (linksIn s t)) ≡ splice links at (linksLeft near near′ far far′)
 
   pub between-first : (near near′ far far′ : ℕ) → Linked s → length s ≤ most → Linked t → linksSize ≤ length before
-      → near ≡ firstOr (length s) (standardsFrom s headerSize) → near′ ≡ firstOr (length t) (standardsFrom t headerSize)
-      → far ≡ firstOr (length s) (standardsFrom s (near + standardSize)) → far′ ≡ firstOr (length t) (standardsFrom t (near′ + standardSize))
+      → near ≡ firstOr (length s) (standardsFrom ipv4 s headerSize) → near′ ≡ firstOr (length t) (standardsFrom ipv4 t headerSize)
+      → far ≡ firstOr (length s) (standardsFrom ipv4 s (near + standardSize)) → far′ ≡ firstOr (length t) (standardsFrom ipv4 t (near′ + standardSize))
       → FillsFrom s far → FillsFrom t far′ → Between before near near′ far far′ 0
   unfolding linksOf
   between-first near near′ far far′ l h m room e f g k p q =
@@ -163,7 +164,7 @@ module _ (s t before : List ℕ) where
       pub link-inside : at + linkSize ≤ length links
       link-inside = omega (arith, here, b .long, b .same)
 
-      module _ (later : ℕ) (f : later ≡ firstOr (length s) (standardsFrom s (far + standardSize))) where
+      module _ (later : ℕ) (f : later ≡ firstOr (length s) (standardsFrom ipv4 s (far + standardSize))) where
         pub between-moves : length s - later < length s - far
         between-moves = moves s near far (b .one) low later f
 
@@ -173,7 +174,7 @@ module _ (s t before : List ℕ) where
             let place : at + linkSize ≡ at + length (linkBytes l) = ap (λ (n : ℕ). at + n) (sym (link-size l)) in
             rw (← el, en, place) (sym (splice-join links at (linkBytes l) (omega (arith, link-inside, link-size l)) (linksLeft far far′ later later′)))
 
-        pub between-on : (later′ : ℕ) (l : Link) (now : List ℕ) → later′ ≡ firstOr (length t) (standardsFrom t (far′ + standardSize))
+        pub between-on : (later′ : ℕ) (l : Link) (now : List ℕ) → later′ ≡ firstOr (length t) (standardsFrom ipv4 t (far′ + standardSize))
             → FillsFrom s later → FillsFrom t later′ → l ≡ linkIn s t near far near′ far′ → now ≡ splice links at (linkBytes l) → Between now far far′ later later′ (at + linkSize)
         unfolding linksFrom linksBytes linkIn
         between-on later′ l now g p q el en =

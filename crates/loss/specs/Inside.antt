@@ -9,6 +9,7 @@ use Rattle.reply.specs.Standard.{standardIn}
 use Rattle.reply.specs.Inside.{FillsFrom}
 use Rattle.loss.specs.declared.Link.{Link}
 use Rattle.loss.specs.Link.{countOf, linkOf}
+use Rattle.format.specs.Sizes.{ipv4}
 
 -- the bytes of a link
 abbrev pub linkSize : ℕ
@@ -18,7 +19,7 @@ linkSize = 32
 pub record Linked (s : List ℕ) : Type 0 where
   pub low : headerSize ≤ length s
   pub fills : FillsFrom s headerSize
-  pub some : 0 < standardCount s
+  pub some : 0 < standardCount ipv4 s
 
 -- the link between the blocks at two places of each of two messages
 unfoldable pub linkIn : List ℕ → List ℕ → ℕ → ℕ → ℕ → ℕ → Link

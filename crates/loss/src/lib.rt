@@ -162,14 +162,14 @@ fn same_path(first: &[u8], second: &[u8]) -> bool
     requires { ⌜ FillsFrom (now first) headerSize × FillsFrom (now second) headerSize ⌝ }
     ensures { λ r. ⌜ r ≡ samePath (standardsIn (now (first .entry))) (standardsIn (now (second .entry))) ⌝ }
 {
-    let mut at = reply::next_known(first, message::HEADER_SIZE);
-    let mut at2 = reply::next_known(second, message::HEADER_SIZE);
+    let mut at = reply::next_known(first, format::HEADER_SIZE);
+    let mut at2 = reply::next_known(second, format::HEADER_SIZE);
     while (at < first.len()) & (at2 < second.len()) {
         if !same_router(first, second, at, at2) {
             return false;
         }
-        at = reply::next_known(first, at + message::STANDARD_SIZE);
-        at2 = reply::next_known(second, at2 + message::STANDARD_SIZE);
+        at = reply::next_known(first, at + format::STANDARD_SIZE);
+        at2 = reply::next_known(second, at2 + format::STANDARD_SIZE);
     }
     (at == first.len()) & (at2 == second.len())
 }
@@ -217,10 +217,10 @@ fn write_links(first: &[u8], second: &[u8], links: &mut [u8])
     requires { ⌜ Linked (now first) × (length (now first) ≤ most) × Linked (now second) × (linksSize ≤ length (now links)) ⌝ }
     ensures { λ _. ⌜ now (links .exit) ≡ splice (now (links .entry)) 0 (linksBytes (linksIn (now (first .entry)) (now (second .entry)))) ⌝ }
 {
-    let mut near = reply::next_known(first, message::HEADER_SIZE);
-    let mut near2 = reply::next_known(second, message::HEADER_SIZE);
-    let mut far = reply::next_known(first, near + message::STANDARD_SIZE);
-    let mut far2 = reply::next_known(second, near2 + message::STANDARD_SIZE);
+    let mut near = reply::next_known(first, format::HEADER_SIZE);
+    let mut near2 = reply::next_known(second, format::HEADER_SIZE);
+    let mut far = reply::next_known(first, near + format::STANDARD_SIZE);
+    let mut far2 = reply::next_known(second, near2 + format::STANDARD_SIZE);
     let mut at: usize = 0;
     while (far < first.len()) & (far2 < second.len()) {
         let l = link_at(first, second, near, far, near2, far2);
@@ -228,8 +228,8 @@ fn write_links(first: &[u8], second: &[u8], links: &mut [u8])
         at += LINK_SIZE;
         near = far;
         near2 = far2;
-        far = reply::next_known(first, far + message::STANDARD_SIZE);
-        far2 = reply::next_known(second, far2 + message::STANDARD_SIZE);
+        far = reply::next_known(first, far + format::STANDARD_SIZE);
+        far2 = reply::next_known(second, far2 + format::STANDARD_SIZE);
     }
 }
 

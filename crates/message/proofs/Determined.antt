@@ -6,6 +6,7 @@ use Rattle.message.proofs.block_at.Reads as block-at
 use Rattle.message.proofs.blocks_of.Reads as blocks-of
 use Rattle.message.proofs.right_form.Reads as right-form
 use Rattle.message.proofs.check.Reads as check
+use Rattle.message.proofs.is_full.Reads as is-full
 
 pub header-of-determined : (κs : _) (a : _) (x y : _) (e f : _) → header-of.Post κs a x e → header-of.Post κs a y f → x ≡ y
 header-of-determined κs a x y e f = both-are
@@ -21,3 +22,6 @@ check-determined κs a x y e f = both-are
 
 pub right-form-determined : (κs : _) (a : _) (x y : _) (e f : _) → right-form.Post κs a x e → right-form.Post κs a y f → x ≡ y
 right-form-determined κs a x y e f = both-are
+
+pub is-full-determined : (κs : _) (a : _) (x y : _) (e f : _) → is-full.Post κs a x e → is-full.Post κs a y f → x ≡ y
+is-full-determined κs a x y e f = both-are

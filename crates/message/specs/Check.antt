@@ -6,9 +6,9 @@ use lib.Dec.{ltb, eqb}
 use lib.ListN.{length}
 use Rattle.rows.specs.Rows.{Row, row}
 use Rattle.message.specs.declared.Header.{Header}
-use Rattle.message.specs.Format.{headerSize, most}
 use Rattle.message.specs.Header.{headerOf, queryOrRequest, rightLength, rightGroup, rightSource, namesNothing, rightClient}
 use Rattle.message.specs.Blocks.{rightForm}
+use Rattle.format.specs.declared.Format.{Format}
 
 -- the numbers, by their names in the table
 abbrev pub dropSize : ℕ
@@ -38,15 +38,15 @@ dropClient = 12
 abbrev pub dropBlocks : ℕ
 dropBlocks = 13
 
--- under 20 bytes or over 1472
-abbrev pub wrongSize : ℕ → Bool
-wrongSize size = ltb size headerSize || ltb most size
+-- shorter than a header or longer than the most (IPv4: under 20 bytes or over 1472)
+abbrev pub wrongSize : Format → ℕ → Bool
+wrongSize F size = ltb size F.header || ltb F.most size
 
 -- the rows on the header
-unfoldable pub headerRows : Header → List Row
-headerRows h =
+unfoldable pub headerRows : Format → Header → List Row
+headerRows F h =
     row dropType (not (queryOrRequest h))
-    ∷ row dropHeader (not (rightLength h))
+    ∷ row dropHeader (not (rightLength F h))
     ∷ row dropHops (eqb (h .hops) 0)
     ∷ row dropGroup (not (rightGroup h))
     ∷ row dropSource (not (rightSource h))
@@ -55,5 +55,5 @@ headerRows h =
     ∷ []
 
 -- the rows on a message, in the table's order
-unfoldable pub messageRows : List ℕ → List Row
-messageRows s = row dropSize (wrongSize (length s)) ∷ (headerRows (headerOf s) ++ (row dropBlocks (not (rightForm s)) ∷ []))
+unfoldable pub messageRows : Format → List ℕ → List Row
+messageRows F s = row dropSize (wrongSize F (length s)) ∷ (headerRows F (headerOf s) ++ (row dropBlocks (not (rightForm F s)) ∷ []))

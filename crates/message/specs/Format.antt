@@ -1,13 +1,15 @@
--- The numbers of the message format (document 01, "Messages"), each under one name.
+-- The numbers of the message format (document 01, "Messages"), each under one name. Sizes are those of a format; here stand their
+-- names for IPv4, for what reads IPv4 alone.
 use Prim.Native.Nat.{ℕ}
+use Rattle.format.specs.Sizes.{ipv4}
 
 -- bytes of the header
 abbrev pub headerSize : ℕ
-headerSize = 20
+headerSize = ipv4 .header
 
 -- no message passes this length
 abbrev pub most : ℕ
-most = 1472
+most = ipv4 .most
 
 -- type of a Query
 abbrev pub query : ℕ
@@ -31,7 +33,7 @@ augmented = 5
 
 -- bytes of a Standard Response Block
 abbrev pub standardSize : ℕ
-standardSize = 52
+standardSize = ipv4 .block
 
 -- the places of the incoming, the outgoing and the upstream address in it
 abbrev pub incomingOffset : ℕ
@@ -45,13 +47,9 @@ upstreamOffset = 16
 
 -- the place of the forwarding code in it
 abbrev pub codeOffset : ℕ
-codeOffset = 51
+codeOffset = ipv4 .code
 
--- an Augmented block has at least so many bytes
-abbrev pub augmentedLeast : ℕ
-augmentedLeast = 8
-
--- and a multiple of so many
+-- the length of an Augmented block is a multiple of so many bytes
 abbrev pub augmentedUnit : ℕ
 augmentedUnit = 4
 

@@ -6,7 +6,8 @@ use lib.Dec.{eqb}
 use Rattle.wire.specs.Numbers.{byteAt, be16, be32}
 use Rattle.wire.specs.Addresses.{unicast, multicast, allOnes}
 use Rattle.message.specs.declared.Header.{Header}
-use Rattle.message.specs.Format.{headerSize, query, request}
+use Rattle.message.specs.Format.{query, request}
+use Rattle.format.specs.declared.Format.{Format}
 
 -- the header that a list of bytes begins with: type, length, hops, multicast address, source address, client address,
 -- query id, client port
@@ -33,8 +34,8 @@ abbrev pub queryOrRequest : Header → Bool
 queryOrRequest h = eqb (h .kind) query || eqb (h .kind) request
 
 -- the length that the header gives for itself
-abbrev pub rightLength : Header → Bool
-rightLength h = eqb (h .length) headerSize
+abbrev pub rightLength : Format → Header → Bool
+rightLength F h = eqb (h .length) F.header
 
 -- a multicast group, or all ones for no group
 abbrev pub rightGroup : Header → Bool

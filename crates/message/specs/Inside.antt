@@ -12,20 +12,21 @@ use Rattle.message.specs.declared.Header.{Header}
 use Rattle.message.specs.declared.Blocks.{Blocks}
 use Rattle.message.specs.declared.BlockHead.{BlockHead}
 use Rattle.message.specs.declared.Checked.{Checked}
-use Rattle.message.specs.Format.{standard, augmented, standardSize}
+use Rattle.message.specs.Format.{standard, augmented}
 use Rattle.message.specs.Header.{headerOf}
 use Rattle.message.specs.Blocks.{begins, blocksFrom, standardPlaces, standards, blocksEnd, standardCount, lastStandard}
 use Rattle.message.specs.Check.{messageRows}
+use Rattle.format.specs.declared.Format.{Format}
 
 -- the place of type 4 block k, counted from 0
-abbrev pub standardAt : List ℕ → ℕ → ℕ
-standardAt s k = getD (standards s) k 0
+abbrev pub standardAt : Format → List ℕ → ℕ → ℕ
+standardAt F s k = getD (standards F s) k 0
 
--- the bytes of a type 4 block: 52, which begin with its type and its length
-pub record StandardBlock (bytes : List ℕ) : Type 0 where
-  pub long : length bytes ≡ standardSize
+-- the bytes of a type 4 block: as many as the format says, which begin with its type and its length
+pub record StandardBlock (F : Format) (bytes : List ℕ) : Type 0 where
+  pub long : length bytes ≡ F.block
   pub kind : byteAt bytes 0 ≡ standard
-  pub size : be16 bytes 1 ≡ standardSize
+  pub size : be16 bytes 1 ≡ F.block
 
 -- no block
 abbrev pub noBlock : BlockHead
@@ -40,17 +41,17 @@ abbrev pub augmentedSize : BlockHead → ℕ
 augmentedSize block = cond (eqb (block .kind) augmented) (block .size) 0
 
 -- the type and the length of the block that begins at a place, where one does
-unfoldable pub blockAt : List ℕ → ℕ → BlockHead
-blockAt s at =
-    let block : BlockHead = record { kind = byteAt (drop at s) 0; size = be16 (drop at s) 1 } in cond (begins (drop at s)) block noBlock
+unfoldable pub blockAt : Format → List ℕ → ℕ → BlockHead
+blockAt F s at =
+    let block : BlockHead = record { kind = byteAt (drop at s) 0; size = be16 (drop at s) 1 } in cond (begins F (drop at s)) block noBlock
 
 -- the places of the type 4 blocks from a place on
-unfoldable pub standardsFrom : List ℕ → ℕ → List ℕ
-standardsFrom s at = standardPlaces (blocksFrom at (drop at s))
+unfoldable pub standardsFrom : Format → List ℕ → ℕ → List ℕ
+standardsFrom F s at = standardPlaces (blocksFrom F at (drop at s))
 
 -- where the blocks of a message end, how many are of type 4, and the last of those
-unfoldable pub blocksSeen : List ℕ → Blocks
-blocksSeen s = record { end = blocksEnd s; count = standardCount s; last = lastStandard s }
+unfoldable pub blocksSeen : Format → List ℕ → Blocks
+blocksSeen F s = record { end = blocksEnd F s; count = standardCount F s; last = lastStandard F s }
 
 -- a header of zeros
 abbrev pub noHeader : Header
@@ -65,9 +66,9 @@ unfoldable pub refusedMessage : ℕ → Checked
 refusedMessage number = record { number = number; header = noHeader; blocks = noBlocks }
 
 -- an accepted one has number 0, its header, and what was seen of its blocks
-unfoldable pub acceptedMessage : List ℕ → Checked
-acceptedMessage s = record { number = 0; header = headerOf s; blocks = blocksSeen s }
+unfoldable pub acceptedMessage : Format → List ℕ → Checked
+acceptedMessage F s = record { number = 0; header = headerOf s; blocks = blocksSeen F s }
 
 -- what the check answers
-unfoldable pub checkOf : List ℕ → Checked
-checkOf s = byFirst refusedMessage (acceptedMessage s) (messageRows s)
+unfoldable pub checkOf : Format → List ℕ → Checked
+checkOf F s = byFirst refusedMessage (acceptedMessage F s) (messageRows F s)

@@ -1,21 +1,16 @@
-// Messages as they arrive: the header read, the blocks walked once, and every rule checked.
+// Messages as they arrive: the header read, the blocks walked once, and every rule checked; all by the sizes of a format.
+use format::Format;
 ghost use mathlib.Core.Path.{_≡_};
 ghost use mathlib.Core.Bool.{cond};
-ghost use Prim.Native.Nat.{_≤_};
+ghost use Prim.Native.Nat.{_+_, _≤_};
+ghost use lib.Dec.{ltb};
 ghost use lib.ListN.{length};
-ghost use Rattle.message.specs.Format.{headerSize};
+ghost use Rattle.format.specs.Sizes.{Sound, headerFields, outputSize, roomOf};
 ghost use Rattle.message.specs.Header.{headerOf};
 ghost use Rattle.message.specs.Blocks.{rightForm, blocksEnd};
 ghost use Rattle.rows.specs.Rows.{firstOf};
 ghost use Rattle.message.specs.Check.{headerRows};
 ghost use Rattle.message.specs.Inside.{isStandard, augmentedSize, blockAt, blocksSeen, refusedMessage, checkOf};
-
-pub const HEADER_SIZE: usize = 20;
-
-// The same, as the header says it of itself.
-pub const HEADER_LENGTH: u16 = HEADER_SIZE as u16;
-
-pub const MOST: usize = 1472;
 
 pub const QUERY: u8 = 1;
 
@@ -27,11 +22,6 @@ pub const STANDARD: u8 = 4;
 
 const AUGMENTED: u8 = 5;
 
-pub const STANDARD_SIZE: usize = 52;
-
-// The same, as the block says it of itself.
-const STANDARD_LENGTH: u16 = STANDARD_SIZE as u16;
-
 // The places of the incoming, the outgoing and the upstream address in a Standard Response Block.
 pub const INCOMING_OFFSET: usize = 8;
 
@@ -39,12 +29,12 @@ pub const OUTGOING_OFFSET: usize = 12;
 
 pub const UPSTREAM_OFFSET: usize = 16;
 
-// The place of the forwarding code in it.
-pub const CODE_OFFSET: usize = 51;
-
 const AUGMENTED_LEAST: usize = 8;
 
 const AUGMENTED_UNIT: usize = 4;
+
+// Bytes of the IP and UDP headers.
+const IP_AND_UDP: usize = 28;
 
 // Bytes of the answer record that goes with a message sent.
 pub const NOTE_SIZE: usize = 16;
@@ -102,7 +92,7 @@ pub struct Checked {
 
 // The header of a message.
 pub fn header_of(s: &[u8]) -> Header
-    requires { ⌜ headerSize ≤ length (now s) ⌝ }
+    requires { ⌜ headerFields ≤ length (now s) ⌝ }
     ensures { λ r. ⌜ r ≡ headerOf (now (s .entry)) ⌝ }
 {
     Header {
@@ -126,8 +116,9 @@ fn row(applies: bool, number: u32, after: u32) -> u32
 
 // The first of the rows on a header, 6 to 12, that applies, or 0. The last row comes first here: each is handed what the rows
 // after it give.
-fn header_number(h: Header) -> u32
-    ensures { λ r. ⌜ r ≡ firstOf (headerRows h) ⌝ }
+fn header_number(f: Format, h: Header) -> u32
+    requires { ⌜ Sound f ⌝ }
+    ensures { λ r. ⌜ r ≡ firstOf (headerRows f h) ⌝ }
 {
     let no_group = wire::all_ones(h.group);
     let no_source = wire::all_ones(h.source);
@@ -136,25 +127,27 @@ fn header_number(h: Header) -> u32
     let source = row(!(wire::unicast(h.source) | no_source), DROP_SOURCE, pair);
     let group = row(!(wire::multicast(h.group) | no_group), DROP_GROUP, source);
     let hops = row(h.hops == 0, DROP_HOPS, group);
-    let size = row(h.length != HEADER_LENGTH, DROP_HEADER, hops);
+    let size = row(h.length != f.header as u16, DROP_HEADER, hops);
     row(!((h.kind == QUERY) | (h.kind == REQUEST)), DROP_TYPE, size)
 }
 
 // Whether a Standard Response Block begins at a place.
-fn standard_at(s: &[u8], at: usize) -> bool
+fn standard_at(f: Format, s: &[u8], at: usize) -> bool
+    requires { ⌜ Sound f ⌝ }
     requires { ⌜ at ≤ length (now s) ⌝ }
-    ensures { λ r. ⌜ r ≡ isStandard (blockAt (now (s .entry)) at) ⌝ }
+    ensures { λ r. ⌜ r ≡ isStandard (blockAt f (now (s .entry)) at) ⌝ }
 {
-    if s.len() - at < STANDARD_SIZE {
+    if s.len() - at < f.block {
         return false;
     }
-    (s[at] == STANDARD) & (wire::be16(s, at + 1) == STANDARD_LENGTH)
+    (s[at] == STANDARD) & (wire::be16(s, at + 1) == f.block as u16)
 }
 
 // The length of the Augmented Response Block that begins at a place; 0 where none does.
-fn augmented_at(s: &[u8], at: usize) -> usize
+fn augmented_at(f: Format, s: &[u8], at: usize) -> usize
+    requires { ⌜ Sound f ⌝ }
     requires { ⌜ at ≤ length (now s) ⌝ }
-    ensures { λ r. ⌜ r ≡ augmentedSize (blockAt (now (s .entry)) at) ⌝ }
+    ensures { λ r. ⌜ r ≡ augmentedSize (blockAt f (now (s .entry)) at) ⌝ }
 {
     let left = s.len() - at;
     if left < AUGMENTED_LEAST {
@@ -172,17 +165,18 @@ fn augmented_at(s: &[u8], at: usize) -> usize
 }
 
 // The block that begins at a place.
-pub fn block_at(s: &[u8], at: usize) -> BlockHead
+pub fn block_at(f: Format, s: &[u8], at: usize) -> BlockHead
+    requires { ⌜ Sound f ⌝ }
     requires { ⌜ at ≤ length (now s) ⌝ }
-    ensures { λ r. ⌜ r ≡ blockAt (now (s .entry)) at ⌝ }
+    ensures { λ r. ⌜ r ≡ blockAt f (now (s .entry)) at ⌝ }
 {
-    if standard_at(s, at) {
+    if standard_at(f, s, at) {
         return BlockHead {
             kind: STANDARD,
-            size: STANDARD_SIZE,
+            size: f.block,
         };
     }
-    let size = augmented_at(s, at);
+    let size = augmented_at(f, s, at);
     if size == 0 {
         return BlockHead { kind: 0, size: 0 };
     }
@@ -194,20 +188,21 @@ pub fn block_at(s: &[u8], at: usize) -> BlockHead
 
 // One walk over the blocks of a message, from each to the next by its length, up to the end or to what is no block. Most
 // blocks are of type 4, which is tried first.
-pub fn blocks_of(s: &[u8]) -> Blocks
-    requires { ⌜ headerSize ≤ length (now s) ⌝ }
-    ensures { λ r. ⌜ r ≡ blocksSeen (now (s .entry)) ⌝ }
+pub fn blocks_of(f: Format, s: &[u8]) -> Blocks
+    requires { ⌜ Sound f ⌝ }
+    requires { ⌜ f .header ≤ length (now s) ⌝ }
+    ensures { λ r. ⌜ r ≡ blocksSeen f (now (s .entry)) ⌝ }
 {
-    let mut at: usize = HEADER_SIZE;
+    let mut at: usize = f.header;
     let mut count: usize = 0;
     let mut last: usize = 0;
     loop {
-        if standard_at(s, at) {
+        if standard_at(f, s, at) {
             count += 1;
             last = at;
-            at += STANDARD_SIZE;
+            at += f.block;
         } else {
-            let size = augmented_at(s, at);
+            let size = augmented_at(f, s, at);
             if size == 0 {
                 return Blocks {
                     end: at,
@@ -221,17 +216,19 @@ pub fn blocks_of(s: &[u8]) -> Blocks
 }
 
 // Whether what follows the header keeps the rules of the message's type; `end` is where the blocks end.
-pub fn right_form(s: &[u8], end: usize) -> bool
-    requires { ⌜ (headerSize ≤ length (now s)) × (end ≡ blocksEnd (now s)) ⌝ }
-    ensures { λ r. ⌜ r ≡ rightForm (now (s .entry)) ⌝ }
+pub fn right_form(f: Format, s: &[u8], end: usize) -> bool
+    requires { ⌜ Sound f ⌝ }
+    requires { ⌜ (f .header ≤ length (now s)) × (end ≡ blocksEnd f (now s)) ⌝ }
+    ensures { λ r. ⌜ r ≡ rightForm f (now (s .entry)) ⌝ }
 {
+    let header = f.header;
     if s[0] == QUERY {
-        return s.len() == HEADER_SIZE;
+        return s.len() == header;
     }
-    if s.len() == HEADER_SIZE {
+    if s.len() == header {
         return false;
     }
-    (end == s.len()) & (s[HEADER_SIZE] == STANDARD)
+    (end == s.len()) & (s[header] == STANDARD)
 }
 
 // The answer for a message that is refused.
@@ -261,22 +258,23 @@ fn refused(number: u32) -> Checked
 }
 
 // The first of rows 5 to 13 that applies to a message, or 0 with its header and its blocks.
-pub fn check(s: &[u8]) -> Checked
-    ensures { λ r. ⌜ r ≡ checkOf (now (s .entry)) ⌝ }
+pub fn check(f: Format, s: &[u8]) -> Checked
+    requires { ⌜ Sound f ⌝ }
+    ensures { λ r. ⌜ r ≡ checkOf f (now (s .entry)) ⌝ }
 {
-    if s.len() < HEADER_SIZE {
+    if s.len() < f.header {
         return refused(DROP_SIZE);
     }
-    if MOST < s.len() {
+    if f.most < s.len() {
         return refused(DROP_SIZE);
     }
     let header = header_of(s);
-    let number = header_number(header);
+    let number = header_number(f, header);
     if number != 0 {
         return refused(number);
     }
-    let blocks = blocks_of(s);
-    if !right_form(s, blocks.end) {
+    let blocks = blocks_of(f, s);
+    if !right_form(f, s, blocks.end) {
         return refused(DROP_BLOCKS);
     }
     Checked {
@@ -284,4 +282,14 @@ pub fn check(s: &[u8]) -> Checked
         header,
         blocks,
     }
+}
+
+// Whether a message of so many bytes has no room for one block more on a link of an MTU.
+pub fn is_full(f: Format, mtu: u16, size: usize) -> bool
+    requires { ⌜ Sound f ⌝ }
+    requires { ⌜ size ≤ outputSize ⌝ }
+    ensures { λ r. ⌜ r ≡ ltb (roomOf f mtu) (size + f .block) ⌝ }
+{
+    let longer = size + f.block;
+    (f.most < longer) | ((mtu as usize) < longer + IP_AND_UDP)
 }

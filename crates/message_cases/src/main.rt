@@ -26,7 +26,7 @@ fn print_blocks(b: Blocks) {
 }
 
 fn check(m: &[u8]) {
-    let c = message::check(m);
+    let c = message::check(format::IPV4, m);
     tape::text(b" ->");
     tape::then(c.number as u64);
     if c.number == 0 {

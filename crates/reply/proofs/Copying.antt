@@ -21,9 +21,10 @@ use Rattle.reply.specs.Copy.{isPlace, isReadable, copied, copiedOut, cop
 use Rattle.reply.specs.Inside.{firstOr}
 use Rattle.reply.proofs.Readable.{checked-known, known-fills}
 use Rattle.reply.proofs.Search.{hands-none, hands-it, found-inside}
+use Rattle.format.specs.Sizes.{ipv4}
 
 -- what `is_place` asks of a message that was checked
-pub asks-place : (s : List ℕ) (n : ℕ) → n ≡ firstOf (replyRows s) → n ≡ 0 → (headerSize ≤ length s) × (blocksEnd s ≡ length s)
+pub asks-place : (s : List ℕ) (n : ℕ) → n ≡ firstOf (replyRows s) → n ≡ 0 → (headerSize ≤ length s) × (blocksEnd ipv4 s ≡ length s)
 asks-place s n en z = let k = checked-known s n en z in (k .low, known-fills s k)
 
 module _ (s : List ℕ) (place : ℕ) (block : List ℕ) where
@@ -46,7 +47,7 @@ module _ (s : List ℕ) (place : ℕ) (block : List ℕ) where
         unfolding copiedNext
         no-place t = rw (tests, not-true f t)
 
-        module _ (t : not f ≡ false) (at : ℕ) (e : at ≡ firstOr (length s) (standardsFrom s place)) where
+        module _ (t : not f ≡ false) (at : ℕ) (e : at ≡ firstOr (length s) (standardsFrom ipv4 s place)) where
           goes : copiedNext s place block ≡ copiedOut (nextFrom s place) block
           unfolding copiedNext
           goes = rw (tests, not-false f t)

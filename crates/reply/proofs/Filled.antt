@@ -20,9 +20,10 @@ use Rattle.message.specs.Inside.{blockAt, standardsFrom}
 use Rattle.message.proofs.Laws.{there, begun, no-blocks, blocks-on, standards-more, standards-same, size-standard, first-low}
 use Rattle.reply.specs.Inside.{firstOr, Settled, FillsFrom}
 use Rattle.reply.proofs.Places.{end-none, settled-more}
+use Rattle.format.specs.Sizes.{ipv4, ipv4-sound}
 
 -- so it is from the first block on
-pub fills-first : (s : List ℕ) → blocksEnd s ≡ length s → FillsFrom s headerSize
+pub fills-first : (s : List ℕ) → blocksEnd ipv4 s ≡ length s → FillsFrom s headerSize
 unfolding blocksEnd blocksOf
 fills-first s e = e
 
@@ -31,19 +32,19 @@ module _ (s : List ℕ) (at : ℕ) (f : FillsFrom s at) where
   fills-high = omega (arith, f)
 
   module _ (low : at < length s) where
-    begins-there : begins (drop at s) ≡ true
+    begins-there : begins ipv4 (drop at s) ≡ true
     unfolding totalSize
-    begins-there = ⊎-elim (λ e. e) over (decided (begins (drop at s)))
+    begins-there = ⊎-elim (λ e. e) over (decided (begins ipv4 (drop at s)))
       where
-        over : begins (drop at s) ≡ false → begins (drop at s) ≡ true
-        over e = absurd (omega (arith, ap totalSize (no-blocks at (drop at s) e), f))
+        over : begins ipv4 (drop at s) ≡ false → begins ipv4 (drop at s) ≡ true
+        over e = absurd (omega (arith, ap totalSize (no-blocks ipv4-sound at (drop at s) e), f))
 
     -- the block, and what its first bytes say of it
     abbrev block : BlockHead
-    block = blockAt s at
+    block = blockAt ipv4 s at
 
     head : block ≡ record { kind = byteAt (drop at s) 0; size = be16 (drop at s) 1 }
-    head = there s at block refl begins-there
+    head = there ipv4-sound s at block refl begins-there
 
     pub kind-read : block .kind ≡ byteAt s at
     kind-read = ap (λ (h : BlockHead). h .kind) head ∙ getD-drop at s 0 0 ∙ ap (byteAt s) (add-zero at)
@@ -52,14 +53,14 @@ module _ (s : List ℕ) (at : ℕ) (f : FillsFrom s at) where
     size-read = ap (λ (h : BlockHead). h .size) head ∙ be-drop 1 s at 1
 
     pub not-empty : block .size ≡ 0 → ⊥
-    not-empty z = omega (arith, z, ap (λ (h : BlockHead). h .size) head, begun (drop at s) begins-there .least)
+    not-empty z = omega (arith, z, ap (λ (h : BlockHead). h .size) head, begun ipv4-sound (drop at s) begins-there .least)
 
     pub head-inside : at + 1 + 2 ≤ length s
-    head-inside = omega (arith, begun (drop at s) begins-there .least, begun (drop at s) begins-there .inside, length-drop at s)
+    head-inside = omega (arith, begun ipv4-sound (drop at s) begins-there .least, begun ipv4-sound (drop at s) begins-there .inside, length-drop at s)
 
     pub fills-on : FillsFrom s (at + be16 s (at + 1))
     unfolding totalSize
-    fills-on = rw (← size-read) (add-assoc at (block .size) _ ∙ rw (blocks-on s at block refl not-empty) at f)
+    fills-on = rw (← size-read) (add-assoc at (block .size) _ ∙ rw (blocks-on ipv4-sound s at block refl not-empty) at f)
 
     pub fills-moves : length s - (at + be16 s (at + 1)) < length s - at
     fills-moves = omega (arith, not-zero, low)
@@ -68,23 +69,23 @@ module _ (s : List ℕ) (at : ℕ) (f : FillsFrom s at) where
         not-zero = omega (arith, sym size-read, not-empty)
 
     -- a type 4 block begins here, or the blocks of type 4 are those behind this one
-    pub standard-here : byteAt s at ≡ standard → standardsFrom s at ≡ at ∷ standardsFrom s (at + block .size)
-    standard-here k = standards-more s at block refl not-empty (eq-eqb _ _ (kind-read ∙ k))
+    pub standard-here : byteAt s at ≡ standard → standardsFrom ipv4 s at ≡ at ∷ standardsFrom ipv4 s (at + block .size)
+    standard-here k = standards-more ipv4-sound s at block refl not-empty (eq-eqb _ _ (kind-read ∙ k))
 
-    pub standard-later : (byteAt s at ≡ standard → ⊥) → standardsFrom s at ≡ standardsFrom s (at + be16 s (at + 1))
-    standard-later k = rw (← size-read) (standards-same s at block refl not-empty (ne-eqb _ _ (λ e. k (sym kind-read ∙ e))))
+    pub standard-later : (byteAt s at ≡ standard → ⊥) → standardsFrom ipv4 s at ≡ standardsFrom ipv4 s (at + be16 s (at + 1))
+    standard-later k = rw (← size-read) (standards-same ipv4-sound s at block refl not-empty (ne-eqb _ _ (λ e. k (sym kind-read ∙ e))))
 
 -- a search that has come to a place of such a message
 pub record Sought (s : List ℕ) (place at : ℕ) : Type 0 where
   pub fills : FillsFrom s at
-  pub same : standardsFrom s place ≡ standardsFrom s at
+  pub same : standardsFrom ipv4 s place ≡ standardsFrom ipv4 s at
 
 pub sought-first : (s : List ℕ) (place : ℕ) → FillsFrom s place → Sought s place place
 sought-first s place f = record { fills = f; same = refl }
 
 module _ (s : List ℕ) (place at : ℕ) (g : Sought s place at) where
   module _ (low : at < length s) where
-    pub sought-here : byteAt s at ≡ standard → at ≡ firstOr (length s) (standardsFrom s place)
+    pub sought-here : byteAt s at ≡ standard → at ≡ firstOr (length s) (standardsFrom ipv4 s place)
     unfolding firstOr
     sought-here k = rw (g .same, standard-here s at (g .fills) low k)
 
@@ -101,7 +102,7 @@ module _ (s : List ℕ) (place at : ℕ) (g : Sought s place at) where
       pub sought-moves : length s - (at + size) < length s - at
       sought-moves = rw e (fills-moves s at (g .fills) low)
 
-  pub sought-over : length s ≤ at → at ≡ firstOr (length s) (standardsFrom s place)
+  pub sought-over : length s ≤ at → at ≡ firstOr (length s) (standardsFrom ipv4 s place)
   unfolding firstOr
   sought-over h = let end : at ≡ length s = omega (arith, fills-high s at (g .fills)) in rw (g .same, end, end-none s)
 
@@ -110,12 +111,12 @@ pub fills-behind : (s : List ℕ) (at : ℕ) → FillsFrom s at → Settled s at
 fills-behind s at f settled low =
     ⊎-elim
     (λ e.
-    let size : be16 s (at + 1) ≡ standardSize = sym (size-read s at f low) ∙ size-standard s at (blockAt s at) refl (not-empty s at f low) e in
+    let size : be16 s (at + 1) ≡ standardSize = sym (size-read s at f low) ∙ size-standard ipv4-sound s at (blockAt ipv4 s at) refl (not-empty s at f low) e in
     rw size at (fills-on s at f low))
     (λ e.
-    let later : standardsFrom s at ≡ standardsFrom s (at + blockAt s at .size) = standards-same s at (blockAt s at) refl (not-empty s at f low) e in
-    let parts : standardsFrom s (at + blockAt s at .size) ≡ at ∷ standardsFrom s (at + standardSize) = sym later ∙ settled-more s at settled low in
-    let some : 0 < length (standardsFrom s (at + blockAt s at .size)) = rw parts (omega arith) in
-    let first : getD (standardsFrom s (at + blockAt s at .size)) 0 0 ≡ at = rw parts in
-    absurd (omega (arith, first-low s (at + blockAt s at .size) some, not-empty s at f low)))
-    (decided (eqb (blockAt s at .kind) standard))
+    let later : standardsFrom ipv4 s at ≡ standardsFrom ipv4 s (at + blockAt ipv4 s at .size) = standards-same ipv4-sound s at (blockAt ipv4 s at) refl (not-empty s at f low) e in
+    let parts : standardsFrom ipv4 s (at + blockAt ipv4 s at .size) ≡ at ∷ standardsFrom ipv4 s (at + standardSize) = sym later ∙ settled-more s at settled low in
+    let some : 0 < length (standardsFrom ipv4 s (at + blockAt ipv4 s at .size)) = rw parts (omega arith) in
+    let first : getD (standardsFrom ipv4 s (at + blockAt ipv4 s at .size)) 0 0 ≡ at = rw parts in
+    absurd (omega (arith, first-low ipv4-sound s (at + blockAt ipv4 s at .size) some, not-empty s at f low)))
+    (decided (eqb (blockAt ipv4 s at .kind) standard))

@@ -22,25 +22,26 @@ use Rattle.reply.specs.declared.Reader.{Reader}
 use Rattle.reply.specs.Standard.{standardOf, standardIn}
 use Rattle.reply.specs.Check.{replyRows, Readable}
 use Rattle.reply.specs.Reader.{standardsIn, blocksIn, startOf, handedBy, nextFrom, Opens, Calls, not-again, again, blocksOut}
+use Rattle.format.specs.Sizes.{ipv4, ipv4-sound}
 
 -- the blocks left from a place on
 abbrev pub leftFrom : List ℕ → ℕ → List Standard
-leftFrom s place = map (standardIn s) (standardsFrom s place)
+leftFrom s place = map (standardIn s) (standardsFrom ipv4 s place)
 
 -- what one call hands out, and those after it
 module _ (s : List ℕ) (place calls : ℕ) where
-  handed-left : (places : List ℕ) (later : List Standard) → places ≡ standardsFrom s place → later ≡ take calls (leftFrom s (handedBy s place places .place))
-      → (0 < length places → places ≡ getD places 0 0 ∷ standardsFrom s (getD places 0 0 + standardSize))
+  handed-left : (places : List ℕ) (later : List Standard) → places ≡ standardsFrom ipv4 s place → later ≡ take calls (leftFrom s (handedBy s place places .place))
+      → (0 < length places → places ≡ getD places 0 0 ∷ standardsFrom ipv4 s (getD places 0 0 + standardSize))
       → cond (handedBy s place places .found) (handedBy s place places .block ∷ later) later ≡ take (suc calls) (map (standardIn s) places)
   handed-left [] later p e parts = e ∙ ap (λ (l : List ℕ). take calls (map (standardIn s) l)) (sym p) ∙ take-all calls [] (omega arith)
   handed-left (at ∷ places) later p e parts =
-      let behind : places ≡ standardsFrom s (at + standardSize) = ap (drop 1) (parts (omega arith)) in
+      let behind : places ≡ standardsFrom ipv4 s (at + standardSize) = ap (drop 1) (parts (omega arith)) in
       ap (λ (l : List Standard). standardIn s at ∷ l) (e ∙ rw behind)
 
   next-left : (later : List Standard) → later ≡ take calls (leftFrom s (nextFrom s place .place))
       → cond (nextFrom s place .found) (nextFrom s place .block ∷ later) later ≡ take (suc calls) (leftFrom s place)
   unfolding nextFrom standardsFrom
-  next-left later e = handed-left (standardsFrom s place) later refl e (first-parts s place)
+  next-left later e = handed-left (standardsFrom ipv4 s place) later refl e (first-parts ipv4-sound s place)
 
 -- so many calls hand out so many of the blocks left
 calls-left : (r : Reader) (hs : List Handed) (left : Reader) → Calls r hs left
@@ -57,7 +58,7 @@ calls-left r (h ∷ hs) left (again {next = next} a c) =
 -- the blocks from the first place on are all of them
 pub left-all : (s : List ℕ) → leftFrom s headerSize ≡ standardsIn s
 unfolding standardsIn standardBlocks
-left-all s = rw (← all-standards s) (sym (maps (standards s)))
+left-all s = rw (← all-standards ipv4-sound s) (sym (maps (standards ipv4 s)))
   where
     maps : (l : List ℕ) → map standardOf (map (λ at. part at standardSize s) l) ≡ map (standardIn s) l
     maps [] = refl

@@ -14,6 +14,7 @@ use Rattle.rows.specs.Rows.{byFirst, firstOf}
 use Rattle.rows.proofs.Laws.{given-alone, none-alone}
 use Rattle.reply.specs.Check.{notReply, replyRows}
 use Rattle.reply.specs.Reader.{startOf}
+use Rattle.format.specs.Sizes.{ipv4}
 
 -- the rows, each under those before it
 module _ (s : List ℕ) where
@@ -36,7 +37,7 @@ module _ (s : List ℕ) where
         unfolding replyRows byFirst headerOf
         row-header h = rw (le-ltb _ _ low, le-ltb _ _ high, eq-eqb _ _ k, ← en, ne-eqb _ _ h)
 
-        module _ (h : n ≡ headerSize) (f : Bool) (ef : f ≡ rightForm s) where
+        module _ (h : n ≡ headerSize) (f : Bool) (ef : f ≡ rightForm ipv4 s) where
           pub row-blocks : f ≡ false → dropBlocks ≡ firstOf (replyRows s)
           unfolding replyRows byFirst headerOf
           row-blocks t = rw (le-ltb _ _ low, le-ltb _ _ high, eq-eqb _ _ k, ← en, eq-eqb _ _ h, ← ef, t)

@@ -14,24 +14,25 @@ use Rattle.reply.specs.declared.Standard.{Standard}
 use Rattle.reply.specs.Standard.{standardIn, noStandard}
 use Rattle.reply.specs.Reader.{handedBy, nextFrom}
 use Rattle.reply.specs.Inside.{firstOr}
+use Rattle.format.specs.Sizes.{ipv4, ipv4-sound}
 
-module _ (s : List ℕ) (place at : ℕ) (block : BlockHead) (b : block ≡ blockAt s at) (so-far : standardsFrom s place ≡ standardsFrom s at) where
-  pub found-none : block .size ≡ 0 → length s ≡ firstOr (length s) (standardsFrom s place)
+module _ (s : List ℕ) (place at : ℕ) (block : BlockHead) (b : block ≡ blockAt ipv4 s at) (so-far : standardsFrom ipv4 s place ≡ standardsFrom ipv4 s at) where
+  pub found-none : block .size ≡ 0 → length s ≡ firstOr (length s) (standardsFrom ipv4 s place)
   unfolding firstOr
-  found-none z = rw (so-far, standards-over s at block b z)
+  found-none z = rw (so-far, standards-over ipv4-sound s at block b z)
 
   module _ (some : block .size ≡ 0 → ⊥) where
-    pub found-here : block .kind ≡ standard → at ≡ firstOr (length s) (standardsFrom s place)
+    pub found-here : block .kind ≡ standard → at ≡ firstOr (length s) (standardsFrom ipv4 s place)
     unfolding firstOr
-    found-here k = rw (so-far, standards-more s at block b some (eq-eqb _ _ k))
+    found-here k = rw (so-far, standards-more ipv4-sound s at block b some (eq-eqb _ _ k))
 
-    pub goes-on : (block .kind ≡ standard → ⊥) → standardsFrom s place ≡ standardsFrom s (at + block .size)
-    goes-on k = so-far ∙ standards-same s at block b some (ne-eqb _ _ k)
+    pub goes-on : (block .kind ≡ standard → ⊥) → standardsFrom ipv4 s place ≡ standardsFrom ipv4 s (at + block .size)
+    goes-on k = so-far ∙ standards-same ipv4-sound s at block b some (ne-eqb _ _ k)
 
 -- past the end there is no block
-pub past-end : (s : List ℕ) (place : ℕ) → length s < place → length s ≡ firstOr (length s) (standardsFrom s place)
+pub past-end : (s : List ℕ) (place : ℕ) → length s < place → length s ≡ firstOr (length s) (standardsFrom ipv4 s place)
 unfolding firstOr
-past-end s place h = rw (standards-over s place noBlock (none-short s place (omega arith)) refl)
+past-end s place h = rw (standards-over ipv4-sound s place noBlock (none-short ipv4-sound s place (omega arith)) refl)
 
 -- what is handed out of the places left: nothing where the first of them is the end; else the block there, which lies within
 module _ (s : List ℕ) (place at : ℕ) where
@@ -48,9 +49,9 @@ module _ (s : List ℕ) (place at : ℕ) where
       let h : p + standardSize ≤ length s = within (omega arith) in
       record { none = λ z. absurd (omega arith); inside = λ some. omega arith; one = λ some. rw same }
 
-  module _ (e : at ≡ firstOr (length s) (standardsFrom s place)) where
-    hands : Hands (standardsFrom s place)
-    hands = by-places (standardsFrom s place) e (first-inside s place)
+  module _ (e : at ≡ firstOr (length s) (standardsFrom ipv4 s place)) where
+    hands : Hands (standardsFrom ipv4 s place)
+    hands = by-places (standardsFrom ipv4 s place) e (first-inside ipv4-sound s place)
 
     pub hands-none : (block : Standard) → at ≡ length s → block ≡ noStandard → record { found = false; place = place; block = block } ≡ nextFrom s place
     unfolding nextFrom standardsFrom

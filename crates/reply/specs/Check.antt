@@ -10,6 +10,7 @@ use Rattle.message.specs.Format.{reply}
 use Rattle.message.specs.Header.{headerOf, rightLength}
 use Rattle.message.specs.Blocks.{rightForm}
 use Rattle.message.specs.Check.{dropSize, dropHeader, dropBlocks, wrongSize}
+use Rattle.format.specs.Sizes.{ipv4}
 
 -- 41: not a Reply
 abbrev pub notReply : ℕ
@@ -22,10 +23,10 @@ isReply h = eqb (h .kind) reply
 -- the rows, in their order: 5, 41, 7, 13. Nothing else of the header is looked at
 unfoldable pub replyRows : List ℕ → List Row
 replyRows s =
-    row dropSize (wrongSize (length s))
+    row dropSize (wrongSize ipv4 (length s))
     ∷ row notReply (not (isReply (headerOf s)))
-    ∷ row dropHeader (not (rightLength (headerOf s)))
-    ∷ row dropBlocks (not (rightForm s))
+    ∷ row dropHeader (not (rightLength ipv4 (headerOf s)))
+    ∷ row dropBlocks (not (rightForm ipv4 s))
     ∷ []
 
 -- a Reply that can be read

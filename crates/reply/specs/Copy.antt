@@ -11,6 +11,7 @@ use Rattle.message.specs.Blocks.{Placed, blocksOf}
 use Rattle.reply.specs.declared.Handed.{Handed}
 use Rattle.reply.specs.Check.{replyRows}
 use Rattle.reply.specs.Reader.{nextFrom}
+use Rattle.format.specs.Sizes.{ipv4}
 
 -- one of some blocks begins at a place
 unfoldable pub beginsAt : ℕ → List Placed → Bool
@@ -19,7 +20,7 @@ beginsAt place (block ∷ others) = eqb (block .at) place || beginsAt place othe
 
 -- a place where a block of the message begins, or its end
 abbrev pub isPlace : List ℕ → ℕ → Bool
-isPlace s place = beginsAt place (blocksOf s) || eqb place (length s)
+isPlace s place = beginsAt place (blocksOf ipv4 s) || eqb place (length s)
 
 -- a Reply that can be read
 abbrev pub isReadable : List ℕ → Bool

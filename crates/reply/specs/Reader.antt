@@ -13,10 +13,11 @@ use Rattle.reply.specs.declared.Handed.{Handed}
 use Rattle.reply.specs.declared.Reader.{Reader}
 use Rattle.reply.specs.Check.{replyRows}
 use Rattle.reply.specs.Standard.{standardOf, standardIn, noStandard}
+use Rattle.format.specs.Sizes.{ipv4}
 
 -- the type 4 blocks of a message, in their order
 unfoldable pub standardsIn : List ℕ → List Standard
-standardsIn s = map standardOf (standardBlocks s)
+standardsIn s = map standardOf (standardBlocks ipv4 s)
 
 -- those of a Reply; of what is refused none
 unfoldable pub blocksIn : List ℕ → List Standard
@@ -34,7 +35,7 @@ handedBy s place (at ∷ left) = record { found = true; place = at + standardSiz
 
 -- those that are left from a place on
 unfoldable pub nextFrom : List ℕ → ℕ → Handed
-nextFrom s place = handedBy s place (standardPlaces (blocksFrom place (drop place s)))
+nextFrom s place = handedBy s place (standardPlaces (blocksFrom ipv4 place (drop place s)))
 
 -- a reader is opened on a message: it holds that message, and begins there
 pub record Opens (reply : RefT (List ℕ)) (r : Reader) : Type 0 where

@@ -2,6 +2,7 @@
 ghost use mathlib.Core.Path.{_≡_};
 ghost use Prim.Native.Nat.{_+_, _≤_};
 ghost use lib.ListN.{length};
+ghost use Rattle.format.specs.Sizes.{ipv4};
 ghost use Rattle.message.specs.Format.{headerSize, standardSize};
 ghost use Rattle.message.specs.Blocks.{blocksEnd};
 ghost use Rattle.message.specs.Inside.{standardsFrom};
@@ -14,6 +15,9 @@ ghost use Rattle.reply.specs.Inside.{firstOr, FillsFrom};
 
 // What is not a Reply.
 pub const NOT_REPLY: u32 = 41;
+
+// The length of a header, as it says it of itself.
+const HEADER_LENGTH: u16 = format::HEADER_SIZE as u16;
 
 // The places of the counts in a Standard Response Block.
 pub const INPUT_OFFSET: usize = 20;
@@ -60,20 +64,20 @@ pub struct Reader<'a> {
 pub fn check(s: &[u8]) -> u32
     ensures { λ r. ⌜ r ≡ firstOf (replyRows (now (s .entry))) ⌝ }
 {
-    if s.len() < message::HEADER_SIZE {
+    if s.len() < format::HEADER_SIZE {
         return message::DROP_SIZE;
     }
-    if message::MOST < s.len() {
+    if format::MOST < s.len() {
         return message::DROP_SIZE;
     }
     if s[0] != message::REPLY {
         return NOT_REPLY;
     }
-    if wire::be16(s, 1) != message::HEADER_LENGTH {
+    if wire::be16(s, 1) != HEADER_LENGTH {
         return message::DROP_HEADER;
     }
-    let blocks = message::blocks_of(s);
-    if message::right_form(s, blocks.end) {
+    let blocks = message::blocks_of(format::IPV4, s);
+    if message::right_form(format::IPV4, s, blocks.end) {
         return 0;
     }
     message::DROP_BLOCKS
@@ -81,14 +85,14 @@ pub fn check(s: &[u8]) -> u32
 
 // The place of the first type 4 block from a place on, where a block begins; the message's length where there is none.
 pub fn next_at(s: &[u8], place: usize) -> usize
-    ensures { λ r. ⌜ r ≡ firstOr (length (now (s .entry))) (standardsFrom (now (s .entry)) place) ⌝ }
+    ensures { λ r. ⌜ r ≡ firstOr (length (now (s .entry))) (standardsFrom ipv4 (now (s .entry)) place) ⌝ }
 {
     if s.len() < place {
         return s.len();
     }
     let mut at = place;
     loop {
-        let block = message::block_at(s, at);
+        let block = message::block_at(format::IPV4, s, at);
         if block.size == 0 {
             return s.len();
         }
@@ -103,7 +107,7 @@ pub fn next_at(s: &[u8], place: usize) -> usize
 // are read.
 pub fn next_known(s: &[u8], place: usize) -> usize
     requires { ⌜ FillsFrom (now s) place ⌝ }
-    ensures { λ r. ⌜ (r ≡ firstOr (length (now (s .entry))) (standardsFrom (now (s .entry)) place)) × FillsFrom (now (s .entry)) r ⌝ }
+    ensures { λ r. ⌜ (r ≡ firstOr (length (now (s .entry))) (standardsFrom ipv4 (now (s .entry)) place)) × FillsFrom (now (s .entry)) r ⌝ }
 {
     let mut here = place;
     while here < s.len() {
@@ -133,7 +137,7 @@ fn standard_of(bytes: [u8; 52]) -> Standard
         ttl: bytes[48],
         s: S_BIT <= bytes[MASK_OFFSET],
         mask: bytes[MASK_OFFSET] % S_BIT,
-        code: bytes[message::CODE_OFFSET],
+        code: bytes[format::CODE_OFFSET],
     }
 }
 
@@ -143,7 +147,7 @@ fn standard_at(s: &[u8], at: usize) -> Standard
     ensures { λ r. ⌜ r ≡ standardIn (now (s .entry)) at ⌝ }
 {
     let mut bytes = [0u8; 52];
-    wire::copy_to(&mut bytes, 0, &s[at..at + message::STANDARD_SIZE]);
+    wire::copy_to(&mut bytes, 0, &s[at..at + format::STANDARD_SIZE]);
     standard_of(bytes)
 }
 
@@ -161,20 +165,20 @@ pub fn next_from(s: &[u8], place: usize) -> Handed
     }
     Handed {
         found: true,
-        place: at + message::STANDARD_SIZE,
+        place: at + format::STANDARD_SIZE,
         block: standard_at(s, at),
     }
 }
 
 // Whether a block of a message begins at a place, or the message ends there; its blocks are known to go up to its end.
 fn is_place(s: &[u8], place: usize) -> bool
-    requires { ⌜ (headerSize ≤ length (now s)) × (blocksEnd (now s) ≡ length (now s)) ⌝ }
+    requires { ⌜ (headerSize ≤ length (now s)) × (blocksEnd ipv4 (now s) ≡ length (now s)) ⌝ }
     ensures { λ r. ⌜ r ≡ isPlace (now (s .entry)) place ⌝ }
 {
     if s.len() < place {
         return false;
     }
-    let mut at: usize = message::HEADER_SIZE;
+    let mut at: usize = format::HEADER_SIZE;
     while at < place {
         at += wire::be16(s, at + 1) as usize;
     }
@@ -185,7 +189,7 @@ fn is_place(s: &[u8], place: usize) -> bool
 pub fn copy_next(s: &[u8], place: usize, block: &mut [u8]) -> u32
     ensures { λ r. ⌜ copied r (now (block .exit)) ≡ copiedNext (now (s .entry)) place (now (block .entry)) ⌝ }
 {
-    if block.len() < message::STANDARD_SIZE {
+    if block.len() < format::STANDARD_SIZE {
         return 0;
     }
     if check(s) != 0 {
@@ -198,7 +202,7 @@ pub fn copy_next(s: &[u8], place: usize, block: &mut [u8]) -> u32
     if at == s.len() {
         return 0;
     }
-    let behind = at + message::STANDARD_SIZE;
+    let behind = at + format::STANDARD_SIZE;
     wire::copy_to(block, 0, &s[at..behind]);
     behind as u32
 }
@@ -208,7 +212,7 @@ pub fn start_of(s: &[u8]) -> usize
     ensures { λ r. ⌜ r ≡ startOf (now (s .entry)) ⌝ }
 {
     if check(s) == 0 {
-        return message::HEADER_SIZE;
+        return format::HEADER_SIZE;
     }
     s.len()
 }

@@ -202,8 +202,8 @@ fn print_between(near: Handed, near2: Handed, far: Handed, far2: Handed) {
 
 // Writes a line for each link of two Replies over one path.
 fn print_links(first: &[u8], second: &[u8]) {
-    let mut near = reply::next_from(first, message::HEADER_SIZE);
-    let mut near2 = reply::next_from(second, message::HEADER_SIZE);
+    let mut near = reply::next_from(first, format::HEADER_SIZE);
+    let mut near2 = reply::next_from(second, format::HEADER_SIZE);
     let mut turns = TURNS;
     while turns > 0 {
         let far = reply::next_from(first, near.place);

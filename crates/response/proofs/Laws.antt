@@ -4,7 +4,8 @@ use Prim.Native.Nat.{ℕ}
 use mathlib.Core.Bool.{true}
 use mathlib.Core.Path.{_≡_, refl}
 use lib.ListN.{length}
-use Rattle.wire.specs.Numbers.{byteAt, bytes, bytes32}
+use Rattle.format.specs.Sizes.{ipv4}
+use Rattle.wire.specs.Numbers.{byteAt, be, bytes, bytes32}
 use Rattle.wire.specs.Parts.{part}
 use Rattle.message.specs.Format.{standardSize, incomingOffset, outgoingOffset, upstreamOffset, codeOffset, noteSize}
 use Rattle.route.specs.declared.Chosen.the-variants.{Nothing}
@@ -15,6 +16,7 @@ use Rattle.rows.specs.Rows.{byFirst}
 use Rattle.response.specs.Code.{codeWrongLastHop, wrongLastHop, codes, codeOf}
 use Rattle.response.specs.Fill.{endsTrace}
 use Rattle.response.specs.Bytes.{blockBytes, noteBytes}
+use Rattle.response.specs.Inside.{Writes}
 
 -- no route ends the trace, and a WRONG_LAST_HOP that hides NO_ROUTE changes nothing of that
 pub no-route-ends : (v : View) (used hops : ℕ) → v .chosen ≡ Nothing → endsTrace v used hops ≡ true
@@ -41,3 +43,8 @@ block-shows b = (refl, refl, refl, refl)
 pub note-length : (n : Note) → length (noteBytes n) ≡ noteSize
 unfolding noteBytes bytes
 note-length n = refl
+
+-- they are blocks of IPv4
+pub ipv4-writes : Writes ipv4
+unfolding blockBytes be bytes
+ipv4-writes = record { standard = λ b. record { long = refl; kind = refl; size = refl }; code = λ b. refl }

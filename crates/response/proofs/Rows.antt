@@ -5,9 +5,9 @@ use mathlib.Core.Path.{_≡_, refl, sym, ap, subst, _∙_}
 use native.Mathlib.Omega.{arith}
 use lib.Dec.{eqb}
 use Rattle.rows.proofs.Laws.{cond-cases}
-use Rattle.entry.specs.Prefix.{addressBits}
-use Rattle.entry.specs.Route.{isRp, groupOnly}
-use Rattle.entry.specs.declared.route.Route.{Route}
+use Rattle.prefix.specs.Prefix.{addressBits}
+use Rattle.route_entry.specs.Route.{isRp, groupOnly}
+use Rattle.route_entry.specs.declared.Route.{Route}
 use Rattle.route.specs.declared.Chosen.{Chosen}
 use Rattle.route.specs.declared.Chosen.the-variants.{Found, Nothing}
 use Rattle.response.specs.declared.View.{View}

@@ -5,9 +5,9 @@ use mathlib.Core.List.{List, [], _∷_}
 use lib.Dec.{eqb}
 use Rattle.rows.specs.Rows.{Row, row, byFirst}
 use Rattle.wire.specs.Addresses.{firstOctet}
-use Rattle.entry.specs.declared.route.Route.{Route}
-use Rattle.entry.specs.Interface.{isMulticast, isBoundary}
-use Rattle.entry.specs.Route.{isRp, pruneSent, inMap}
+use Rattle.route_entry.specs.declared.Route.{Route}
+use Rattle.interface.specs.Interface.{isMulticast, isBoundary}
+use Rattle.route_entry.specs.Route.{isRp, pruneSent, inMap}
 use Rattle.route.specs.declared.Chosen.{Chosen}
 use Rattle.route.specs.declared.Chosen.the-variants.{Found, Nothing}
 use Rattle.response.specs.declared.View.{View}

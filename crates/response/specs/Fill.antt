@@ -3,9 +3,9 @@ use Prim.Native.Nat.{ℕ, _+_}
 use mathlib.Core.Bool.{Bool, true, _&&_, _||_, cond}
 use lib.Dec.{ltb, eqb}
 use Rattle.wire.specs.Addresses.{allOnes}
-use Rattle.entry.specs.Prefix.{addressBits}
-use Rattle.entry.specs.Route.{sourceAndGroup, groupOnly, sourceOnly, isRp}
-use Rattle.entry.specs.declared.route.Route.{Route}
+use Rattle.prefix.specs.Prefix.{addressBits}
+use Rattle.route_entry.specs.Route.{sourceAndGroup, groupOnly, sourceOnly, isRp}
+use Rattle.route_entry.specs.declared.Route.{Route}
 use Rattle.route.specs.declared.Chosen.{Chosen}
 use Rattle.route.specs.declared.Chosen.the-variants.{Found, Nothing}
 use Rattle.response.specs.declared.View.{View}

@@ -2,10 +2,16 @@
 use Prim.Native.Nat.{ℕ, _≤_}
 use mathlib.Core.Bool.{Bool}
 use mathlib.Core.List.{List, [], _∷_}
+use mathlib.Core.Path.{_≡_}
 use Rattle.rows.specs.Rows.{Row, row}
-use Rattle.entry.specs.Prefix.{addressBits}
-use Rattle.entry.specs.declared.route.Route.{Route}
-use Rattle.entry.specs.Route.{pruneSent, inMap}
+use Rattle.format.specs.declared.Format.{Format}
+use Rattle.wire.specs.Numbers.{byteAt}
+use Rattle.message.specs.Inside.{StandardBlock}
+use Rattle.prefix.specs.Prefix.{addressBits}
+use Rattle.route_entry.specs.declared.Route.{Route}
+use Rattle.route_entry.specs.Route.{pruneSent, inMap}
+use Rattle.response.specs.declared.Block.{Block}
+use Rattle.response.specs.Bytes.{blockBytes}
 use Rattle.response.specs.Code.{codeScoped, codePruneSent, codePruneRcvd, codeNotForwarding}
 use Rattle.route.specs.declared.Chosen.{Chosen}
 use Rattle.route.specs.declared.Chosen.the-variants.{Found, Nothing}
@@ -23,3 +29,8 @@ lateCodes inScope r number =
 abbrev pub RouteFits : Chosen → Type 0
 RouteFits Nothing = Unit {0}
 RouteFits (Found r) = r .length ≤ addressBits
+
+-- the blocks that are written here are type 4 blocks of the format, with the code at its place
+pub record Writes (F : Format) : Type 0 where
+  pub standard : (b : Block) → StandardBlock F (blockBytes b)
+  pub code : (b : Block) → byteAt (blockBytes b) F.code ≡ b .code

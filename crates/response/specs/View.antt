@@ -1,7 +1,7 @@
 -- The incoming interface of the route chosen, as the tests and the block read it.
 use Prim.Native.Nat.{ℕ}
 use mathlib.Core.Bool.{Bool, false}
-use Rattle.entry.specs.Interface.{isBoundary}
+use Rattle.interface.specs.Interface.{isBoundary}
 use Rattle.response.specs.declared.Incoming.{Incoming}
 use Rattle.response.specs.declared.Incoming.the-variants.{Known, Unknown}
 

@@ -1,12 +1,12 @@
 // A router's Standard Response Block: the first code that applies, what the block is filled with, its bytes; what ends a
 // trace; and the bytes of an answer record. All over records: no byte of a message or a sheet is looked at here.
-use entry::Interface;
-use entry::Route;
+use interface::Interface;
 use route::Chosen;
+use route_entry::Route;
 ghost use mathlib.Core.Path.{_≡_};
 ghost use Prim.Native.Nat.{_+_, _≤_, _<_};
-ghost use Rattle.entry.specs.Prefix.{addressBits};
-ghost use Rattle.entry.specs.Interface.{mostInterfaces};
+ghost use Rattle.prefix.specs.Prefix.{addressBits};
+ghost use Rattle.interface.specs.Interface.{mostInterfaces};
 ghost use Rattle.route.specs.declared.Chosen.the-variants.{Found};
 ghost use Rattle.response.specs.View.{boundaryOn, addressOf, inputOf};
 ghost use Rattle.rows.specs.Rows.{firstOf};
@@ -110,7 +110,7 @@ fn boundary_on(i: Incoming) -> bool
     ensures { λ r. ⌜ r ≡ boundaryOn i ⌝ }
 {
     match i {
-        Incoming::Known(i) => entry::is_boundary(i),
+        Incoming::Known(i) => interface::is_boundary(i),
         Incoming::Unknown => false,
     }
 }
@@ -120,7 +120,7 @@ fn in_scope(v: View) -> bool
 {
     let incoming = v.incoming;
     (v.group / wire::FIRST_OCTET == SCOPED_OCTET)
-        & (entry::is_boundary(v.here) | boundary_on(incoming))
+        & (interface::is_boundary(v.here) | boundary_on(incoming))
 }
 
 // The first code from SCOPED on that applies, where a route was chosen. It takes of the view what it looks at: a view lent whole
@@ -129,17 +129,17 @@ fn late_code(scoped: bool, r: Route, number: usize) -> u8
     requires { ⌜ number < mostInterfaces ⌝ }
     ensures { λ code. ⌜ code ≡ firstOf (lateCodes scoped r number) ⌝ }
 {
-    let sent = entry::prune_sent(r);
+    let sent = route_entry::prune_sent(r);
     if scoped {
         return CODE_SCOPED;
     }
     if sent {
         return CODE_PRUNE_SENT;
     }
-    if entry::in_map(r.pruned, number) {
+    if route_entry::in_map(r.pruned, number) {
         return CODE_PRUNE_RCVD;
     }
-    if entry::in_map(r.stopped, number) {
+    if route_entry::in_map(r.stopped, number) {
         return CODE_NOT_FORWARDING;
     }
     CODE_NO_ERROR
@@ -153,20 +153,20 @@ fn code_on(v: View, r: Route) -> u8
     if v.query & !v.proper {
         return CODE_WRONG_LAST_HOP;
     }
-    if entry::is_rp(r) {
+    if route_entry::is_rp(r) {
         return CODE_REACHED_RP;
     }
     if v.prohibited {
         return CODE_ADMIN_PROHIB;
     }
-    if !entry::is_multicast(v.here) {
+    if !interface::is_multicast(v.here) {
         return CODE_NO_MULTICAST;
     }
     if v.number == r.incoming as u32 {
         return CODE_RPF_IF;
     }
     let number = v.number as usize;
-    if !entry::in_map(r.forward, number) {
+    if !route_entry::in_map(r.forward, number) {
         return CODE_WRONG_IF;
     }
     late_code(in_scope(v), r, number)
@@ -221,7 +221,7 @@ pub fn upstream(r: Route) -> u32
 fn total(r: Route) -> u64
     ensures { λ n. ⌜ n ≡ totalOf r ⌝ }
 {
-    if r.kind == entry::SOURCE_ONLY {
+    if r.kind == route_entry::SOURCE_ONLY {
         return NOT_COUNTED;
     }
     r.packets
@@ -230,7 +230,7 @@ fn total(r: Route) -> u64
 fn mask(r: Route) -> u8
     ensures { λ n. ⌜ n ≡ maskOf r ⌝ }
 {
-    if r.kind == entry::GROUP_ONLY {
+    if r.kind == route_entry::GROUP_ONLY {
         return NO_SOURCE_MASK;
     }
     r.length
@@ -241,8 +241,8 @@ fn s_and_mask(r: Route) -> u8
     requires { ⌜ r .length ≤ addressBits ⌝ }
     ensures { λ n. ⌜ n ≡ sAndMask r ⌝ }
 {
-    if (r.kind == entry::GROUP_ONLY)
-        | ((r.kind == entry::SOURCE_AND_GROUP) & (r.length < entry::ADDRESS_BITS))
+    if (r.kind == route_entry::GROUP_ONLY)
+        | ((r.kind == route_entry::SOURCE_AND_GROUP) & (r.length < prefix::ADDRESS_BITS))
     {
         return S_BIT + mask(r);
     }
@@ -317,19 +317,22 @@ pub fn ends_trace(v: View, used: u32, hops: u32) -> bool
 {
     let chosen = v.chosen;
     match chosen {
-        Chosen::Found(r) => v.prohibited | entry::is_rp(r) | (r.upstream == 0) | (used == hops),
+        Chosen::Found(r) => v.prohibited
+            | route_entry::is_rp(r)
+            | (r.upstream == 0)
+            | (used == hops),
         Chosen::Nothing => true,
     }
 }
 
 // The 52 bytes of a block.
-pub fn block_bytes(b: Block) -> [u8; message::STANDARD_SIZE]
+pub fn block_bytes(b: Block) -> [u8; format::STANDARD_SIZE]
     ensures { λ r. ⌜ r ≡ blockBytes b ⌝ }
 {
     let f = b.filled;
-    let mut a = [0u8; message::STANDARD_SIZE];
+    let mut a = [0u8; format::STANDARD_SIZE];
     a[0] = message::STANDARD;
-    a[2] = message::STANDARD_SIZE as u8;
+    a[2] = format::STANDARD_SIZE as u8;
     wire::put32(&mut a, 4, b.time);
     wire::put32(&mut a, 8, f.incoming);
     wire::put32(&mut a, 12, b.outgoing);
@@ -341,7 +344,7 @@ pub fn block_bytes(b: Block) -> [u8; message::STANDARD_SIZE]
     wire::put16(&mut a, 46, f.multicast);
     a[48] = b.threshold;
     a[50] = f.mask;
-    a[message::CODE_OFFSET] = b.code;
+    a[format::CODE_OFFSET] = b.code;
     a
 }
 

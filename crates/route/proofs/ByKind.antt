@@ -10,10 +10,10 @@ use lib.Dec.{eqb, leb}
 use borrow.Author.Tests.{eqb-true, leb-true, ne-eqb, not-true, not-false}
 use Rattle.rows.proofs.Laws.{both-of}
 use Rattle.wire.specs.Addresses.{firstOctet, multicast, allOnes}
-use Rattle.entry.specs.Prefix.{samePrefix}
-use Rattle.entry.specs.Route.{sourceAndGroup, groupOnly, sourceOnly, routeAt, routeOk}
-use Rattle.entry.specs.declared.route.Route.{Route}
-use Rattle.entry.proofs.Laws.{RouteKept, route-kept}
+use Rattle.prefix.specs.Prefix.{samePrefix}
+use Rattle.route_entry.specs.Route.{sourceAndGroup, groupOnly, sourceOnly, routeAt, routeOk}
+use Rattle.route_entry.specs.declared.Route.{Route}
+use Rattle.route_entry.proofs.Laws.{RouteKept, route-kept}
 use Rattle.route.specs.declared.Best.{Best}
 use Rattle.route.specs.Choice.{servesBoth, servesGroup, servesSource}
 use Rattle.route.specs.Inside.{bothRank, groupRank, sourceRank, rankBy, rankOf, ofSource, serves, rankAs, better}

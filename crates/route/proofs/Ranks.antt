@@ -9,8 +9,8 @@ use lib.Dec.{ltb, eqb}
 use borrow.Author.Tests.{lt-ltb, le-ltb, eq-eqb, ne-eqb, ltb-true, ltb-false}
 use Rattle.rows.proofs.Laws.{cond-cases}
 use Rattle.wire.specs.Addresses.{allOnes}
-use Rattle.entry.specs.Prefix.{addressBits}
-use Rattle.entry.specs.declared.route.Route.{Route}
+use Rattle.prefix.specs.Prefix.{addressBits}
+use Rattle.route_entry.specs.declared.Route.{Route}
 use Rattle.route.specs.declared.Best.{Best}
 use Rattle.route.specs.declared.Chosen.{Chosen}
 use Rattle.route.specs.declared.Chosen.the-variants.{Found, Nothing}

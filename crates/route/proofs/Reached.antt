@@ -10,12 +10,14 @@ use native.Mathlib.Numerals.{add-one}
 use lib.Dec.{eqb}
 use borrow.Author.Tests.{eq-eqb, ne-eqb, eqb-true, eqb-false}
 use Rattle.rows.proofs.Laws.{cond-cases}
-use Rattle.entry.specs.Route.{isRp}
-use Rattle.entry.specs.Prefix.{addressBits, samePrefix}
-use Rattle.entry.specs.Interface.{mostInterfaces, isMulticast}
-use Rattle.entry.specs.declared.interface.Interface.{Interface}
-use Rattle.entry.specs.declared.route.Route.{Route}
-use Rattle.entry.proofs.Laws.{interface-short}
+use Rattle.format.specs.Sizes.{Sound}
+use Rattle.format.specs.declared.Format.{Format}
+use Rattle.route_entry.specs.Route.{isRp}
+use Rattle.prefix.specs.Prefix.{addressBits, samePrefix}
+use Rattle.interface.specs.Interface.{mostInterfaces, isMulticast}
+use Rattle.interface.specs.declared.Interface.{Interface}
+use Rattle.route_entry.specs.declared.Route.{Route}
+use Rattle.interface.proofs.Laws.{interface-short}
 use Rattle.sheet.specs.declared.layout.Layout.{Layout}
 use Rattle.sheet.specs.Sheet.{layoutOf}
 use Rattle.sheet.specs.Tables.{interfaceOf}
@@ -41,12 +43,12 @@ module _ (interface : ℕ → Interface) (n : ℕ) (chosen : Chosen) (client : �
   hop-none none = rw none
 
 -- an interface that is counted has a bit in every map
-module _ (s : List ℕ) (l : Layout) (layout : l ≡ layoutOf s) where
-  pub interface-counted : (k : ℕ) → k < l .interfaces → k < layoutOf s .interfaces
+module _ (F : Format) (s : List ℕ) (l : Layout) (layout : l ≡ layoutOf F s) where
+  pub interface-counted : (k : ℕ) → k < l .interfaces → k < layoutOf F s .interfaces
   interface-counted k h = rw layout at h
 
   pub bit-there : (k : ℕ) → k < l .interfaces → k < mostInterfaces
-  bit-there k h = interface-few s k (interface-counted k h)
+  bit-there k h = interface-few F s k (interface-counted k h)
 
 -- a bit is set or clear
 low-bit : (n : ℕ) (x y : Bool) → cond (eqb (n % 2) 0) false (x && y) ≡ x && eqb (n % 2) 1 && y
@@ -57,19 +59,19 @@ low-bit n true y =
 low-bit n false y = cond-cases (λ b. b ≡ false) (eqb (n % 2) 0) false false (λ z. refl) (λ z. refl)
 
 -- an interface by the lowest bit of what is left of the map
-module _ (s : List ℕ) (map client k : ℕ) where
-  pub bit-clear : map % 2 ≡ 0 → false ≡ reachesBy map client (interfaceOf s k)
+module _ (F : Format) (s : List ℕ) (map client k : ℕ) where
+  pub bit-clear : map % 2 ≡ 0 → false ≡ reachesBy map client (interfaceOf F s k)
   unfolding reachesBy
   bit-clear e = rw (eq-eqb (map % 2) 0 e)
 
-  module _ (i : Interface) (read : i ≡ interfaceOf s k) where
-    pub interface-short-enough : k < layoutOf s .interfaces → i .length ≤ addressBits
-    interface-short-enough h = rw read (interface-short _ (interface-keeps s k h))
-
+  module _ (i : Interface) (read : i ≡ interfaceOf F s k) where
     pub bit-set : (x y : Bool) → (map % 2 ≡ 0 → ⊥) → x ≡ isMulticast i → y ≡ samePrefix (i .length) (i .address) client
-        → x && y ≡ reachesBy map client (interfaceOf s k)
+        → x && y ≡ reachesBy map client (interfaceOf F s k)
     unfolding reachesBy
     bit-set x y e f g = rw (ne-eqb (map % 2) 0 e, f, g, read)
+
+pub interface-short-enough : {F : Format} → Sound F → (s : List ℕ) (k : ℕ) (i : Interface) → i ≡ interfaceOf F s k → k < layoutOf F s .interfaces → i .length ≤ addressBits
+interface-short-enough {F} sound s k i read h = rw read (interface-short F _ (interface-keeps sound s k h))
 
 -- where nothing is left, no later bit is set
 none-left : (forward k i : ℕ) → forward / 2 ^ k ≡ 0 → k ≤ i → forward / 2 ^ i ≡ 0
@@ -83,26 +85,26 @@ not-set true y = refl
 not-set false y = refl
 
 -- the pass: none of the first k interfaces reaches the client
-module _ (s : List ℕ) (r : Route) (client : ℕ) where
+module _ (F : Format) (s : List ℕ) (r : Route) (client : ℕ) where
   abbrev reached-by : ℕ → Bool
-  reached-by k = reaches r client k (interfaceOf s k)
+  reached-by k = reaches r client k (interfaceOf F s k)
 
-  reaches-told : (k : ℕ) → reachesBy (r .forward / 2 ^ k) client (interfaceOf s k) ≡ reached-by k
+  reaches-told : (k : ℕ) → reachesBy (r .forward / 2 ^ k) client (interfaceOf F s k) ≡ reached-by k
   unfolding reachesBy reaches
   reaches-told k =
-      let i : Interface = interfaceOf s k in
+      let i : Interface = interfaceOf F s k in
       low-bit (r .forward / 2 ^ k) (isMulticast i) (samePrefix (i .length) (i .address) client)
 
-  reach-later : (n k : ℕ) → k < n → reached-by k ≡ true → someReaches (interfaceOf s) r client n ≡ true
+  reach-later : (n k : ℕ) → k < n → reached-by k ≡ true → someReaches (interfaceOf F s) r client n ≡ true
   unfolding someReaches
   reach-later zero k h e = absurd (omega arith)
   reach-later (suc n) k h e =
       ⊎-elim (λ (q : k ≡ n). rw (← q, e))
-      (λ (q : k < n). cond-cases (λ b. b ≡ true) (reached-by n) true (someReaches (interfaceOf s) r client n) (λ z. refl) (λ z. reach-later n k q e))
+      (λ (q : k < n). cond-cases (λ b. b ≡ true) (reached-by n) true (someReaches (interfaceOf F s) r client n) (λ z. refl) (λ z. reach-later n k q e))
       (eq-or-lt-of-le {n = k} {m = n} (omega arith))
 
-  none-later : (n k : ℕ) → k ≤ n → someReaches (interfaceOf s) r client k ≡ false → ((i : ℕ) → k ≤ i → i < n → reached-by i ≡ false)
-      → someReaches (interfaceOf s) r client n ≡ false
+  none-later : (n k : ℕ) → k ≤ n → someReaches (interfaceOf F s) r client k ≡ false → ((i : ℕ) → k ≤ i → i < n → reached-by i ≡ false)
+      → someReaches (interfaceOf F s) r client n ≡ false
   unfolding someReaches
   none-later zero k h e none = refl
   none-later (suc n) k h e none =
@@ -110,21 +112,21 @@ module _ (s : List ℕ) (r : Route) (client : ℕ) where
       (λ (q : k < suc n). rw (none n (omega arith) (omega arith)) (none-later n k (omega arith) e (λ i l m. none i l (omega arith))))
       (eq-or-lt-of-le {n = k} {m = suc n} h)
 
-  module _ (l : Layout) (layout : l ≡ layoutOf s) (k : ℕ) (so-far : someReaches (interfaceOf s) r client k ≡ false) where
-    pub reached : (x : Bool) → k < l .interfaces → x ≡ reachesBy (r .forward / 2 ^ k) client (interfaceOf s k) → x ≡ true
-        → true ≡ someReaches (interfaceOf s) r client (layoutOf s .interfaces)
+  module _ (l : Layout) (layout : l ≡ layoutOf F s) (k : ℕ) (so-far : someReaches (interfaceOf F s) r client k ≡ false) where
+    pub reached : (x : Bool) → k < l .interfaces → x ≡ reachesBy (r .forward / 2 ^ k) client (interfaceOf F s k) → x ≡ true
+        → true ≡ someReaches (interfaceOf F s) r client (layoutOf F s .interfaces)
     reached x h told e = sym (reach-later _ k (rw layout at h) (sym (reaches-told k) ∙ sym told ∙ e))
 
-    pub not-reached : (x : Bool) → x ≡ reachesBy (r .forward / 2 ^ k) client (interfaceOf s k) → x ≡ false
-        → someReaches (interfaceOf s) r client (k + 1) ≡ false
+    pub not-reached : (x : Bool) → x ≡ reachesBy (r .forward / 2 ^ k) client (interfaceOf F s k) → x ≡ false
+        → someReaches (interfaceOf F s) r client (k + 1) ≡ false
     unfolding someReaches
     not-reached x told e = rw (add-one, ← (reaches-told k), ← told, e) so-far
 
-    pub map-over : k < l .interfaces → r .forward / 2 ^ k ≡ 0 → false ≡ someReaches (interfaceOf s) r client (layoutOf s .interfaces)
+    pub map-over : k < l .interfaces → r .forward / 2 ^ k ≡ 0 → false ≡ someReaches (interfaceOf F s) r client (layoutOf F s .interfaces)
     unfolding reaches
     map-over h z =
         rw (← layout)
-        (sym (none-later (l .interfaces) k (omega arith) so-far (λ i m n. rw (none-left (r .forward) k i z m) (not-set (isMulticast (interfaceOf s i)) _))))
+        (sym (none-later (l .interfaces) k (omega arith) so-far (λ i m n. rw (none-left (r .forward) k i z m) (not-set (isMulticast (interfaceOf F s i)) _))))
 
-    pub none-reached : k ≤ l .interfaces → l .interfaces ≤ k → false ≡ someReaches (interfaceOf s) r client (layoutOf s .interfaces)
+    pub none-reached : k ≤ l .interfaces → l .interfaces ≤ k → false ≡ someReaches (interfaceOf F s) r client (layoutOf F s .interfaces)
     none-reached h m = let q : k ≡ l .interfaces = omega arith in rw (← layout) (sym (rw q at so-far))

@@ -6,12 +6,15 @@ use mathlib.Core.Path.{_≡_, refl, ap, _∙_}
 use native.Mathlib.Omega.{arith}
 use native.Mathlib.Nat.{zero-add, add-zero}
 use lib.Dec.{eqb}
+use lib.ListN.{length}
 use borrow.Author.Tests.{eq-eqb, ne-eqb, eqb-true}
 use Rattle.rows.proofs.Laws.{parts}
-use Rattle.entry.specs.Route.{routeSize, routeAt, routeOk, groupOnly}
-use Rattle.entry.specs.Prefix.{addressBits}
-use Rattle.entry.specs.declared.route.Route.{Route}
-use Rattle.entry.proofs.Laws.{route-kept}
+use Rattle.format.specs.Sizes.{Sound, routeFields}
+use Rattle.format.specs.declared.Format.{Format}
+use Rattle.route_entry.specs.Route.{routeAt, routeOk, groupOnly}
+use Rattle.prefix.specs.Prefix.{addressBits}
+use Rattle.route_entry.specs.declared.Route.{Route}
+use Rattle.route_entry.proofs.Laws.{route-kept}
 use Rattle.sheet.specs.declared.layout.Layout.{Layout}
 use Rattle.sheet.specs.Every.{listed}
 use Rattle.sheet.specs.Sheet.{layoutOf}
@@ -50,53 +53,56 @@ module _ (s : List ℕ) (at interfaces : ℕ) (ok : routeOk interfaces (routeAt 
   read-short bits e = rw e kept-short
 
 -- one turn over routes that stand side by side
-module _ (s : List ℕ) (first at count : ℕ) (beside : Beside s first at count) where
-  pub beside-kept : (j : ℕ) → j < count → routeOk (layoutOf s .interfaces) (routeAt s (at + routeSize * j)) ≡ true
-  beside-kept j h = rw (← (beside .each j h)) (route-keeps s (first + j) (omega (arith, beside .there)))
+module _ {F : Format} (s : List ℕ) (first at count : ℕ) (beside : Beside F s first at count) where
+  pub beside-within : Sound F → (j : ℕ) → j < count → at + F.route * j + routeFields ≤ length s
+  beside-within sound j h = omega (arith, beside .bytes j h)
+
+  pub beside-kept : Sound F → (j : ℕ) → j < count → routeOk (layoutOf F s .interfaces) (routeAt s (at + F.route * j)) ≡ true
+  beside-kept sound j h = rw (← (beside .each j h)) (route-keeps sound s (first + j) (omega (arith, beside .there)))
 
   module _ (source group : ℕ) where
-    pub best-more : (b b′ : Best) (j : ℕ) → b ≡ bestOf (ranksIn s source group) (first + j) → j < count
-        → b′ ≡ better b (rankOf source group (routeAt s (at + routeSize * j))) (first + j) → b′ ≡ bestOf (ranksIn s source group) (first + (j + 1))
+    pub best-more : (b b′ : Best) (j : ℕ) → b ≡ bestOf (ranksIn F s source group) (first + j) → j < count
+        → b′ ≡ better b (rankOf source group (routeAt s (at + F.route * j))) (first + j) → b′ ≡ bestOf (ranksIn F s source group) (first + (j + 1))
     unfolding bestOf ranksIn
     best-more b b′ j e h f = let n : first + (j + 1) ≡ suc (first + j) = omega arith in f ∙ rw (n, beside .each j h, ← e)
 
 -- before the first turn and after the last
-module _ (s : List ℕ) (source group first : ℕ) (b : Best) where
-  pub best-start : b ≡ bestOf (ranksIn s source group) first → b ≡ bestOf (ranksIn s source group) (first + 0)
+module _ (F : Format) (s : List ℕ) (source group first : ℕ) (b : Best) where
+  pub best-start : b ≡ bestOf (ranksIn F s source group) first → b ≡ bestOf (ranksIn F s source group) (first + 0)
   best-start e = rw add-zero e
 
-  pub best-end : (j count : ℕ) → b ≡ bestOf (ranksIn s source group) (first + j) → j ≤ count → count ≤ j
-      → b ≡ bestOf (ranksIn s source group) (first + count)
+  pub best-end : (j count : ℕ) → b ≡ bestOf (ranksIn F s source group) (first + j) → j ≤ count → count ≤ j
+      → b ≡ bestOf (ranksIn F s source group) (first + count)
   best-end j count e h g = let q : j ≡ count = omega arith in rw q at e
 
-module _ (s : List ℕ) (l : Layout) (layout : l ≡ layoutOf s) where
-  module _ (source group : ℕ) where
-    pub best-all : (b : Best) (k : ℕ) → b ≡ bestOf (ranksIn s source group) k → k ≤ l .routes → l .routes ≤ k
-        → b ≡ bestOf (ranksIn s source group) (layoutOf s .routes)
-    best-all b k e h g = let q : k ≡ l .routes = omega arith in e ∙ rw (q, layout)
+module _ (F : Format) (s : List ℕ) (l : Layout) (layout : l ≡ layoutOf F s) (source group : ℕ) where
+  pub best-all : (b : Best) (k : ℕ) → b ≡ bestOf (ranksIn F s source group) k → k ≤ l .routes → l .routes ≤ k
+      → b ≡ bestOf (ranksIn F s source group) (layoutOf F s .routes)
+  best-all b k e h g = let q : k ≡ l .routes = omega arith in e ∙ rw (q, layout)
 
-    -- the route that was found is one of the sheet's
-    pub chosen-there : (b : Best) → b ≡ bestOf (ranksIn s source group) (layoutOf s .routes) → (b .rank ≡ 0 → ⊥) → b .at < l .routes
-    chosen-there b e some =
-        rw (e, layout) (best-within (ranksIn s source group) (layoutOf s .routes) (rw e at (above (b .rank) some)))
+  -- the route that was found is one of the sheet's
+  pub chosen-there : (b : Best) → b ≡ bestOf (ranksIn F s source group) (layoutOf F s .routes) → (b .rank ≡ 0 → ⊥) → b .at < l .routes
+  chosen-there b e some =
+      rw (e, layout) (best-within (ranksIn F s source group) (layoutOf F s .routes) (rw e at (above (b .rank) some)))
 
-    right-routes : (k : ℕ) → k < layoutOf s .routes
-        → (asGroup source group (routeOf s k) ≡ true → routeOf s k .length ≡ 0) × (routeOf s k .length ≤ addressBits)
-    unfolding servesGroup
-    right-routes k h =
-        let kept = route-kept _ _ (route-keeps s k h) in
-        (λ e. kept .whole (eqb-true (routeOf s k .kind) groupOnly (search parts depth 8)), kept .short)
+module _ {F : Format} (sound : Sound F) (s : List ℕ) (source group : ℕ) where
+  right-routes : (k : ℕ) → k < layoutOf F s .routes
+      → (asGroup source group (routeOf F s k) ≡ true → routeOf F s k .length ≡ 0) × (routeOf F s k .length ≤ addressBits)
+  unfolding servesGroup
+  right-routes k h =
+      let kept = route-kept _ _ (route-keeps sound s k h) in
+      (λ e. kept .whole (eqb-true (routeOf F s k .kind) groupOnly (search parts depth 8)), kept .short)
 
-    pub by-rank : whichRoute (routesOf s) source group
-        ≡ cond (eqb (bestOf (ranksIn s source group) (layoutOf s .routes) .rank) 0) Nothing
-        (Found (routeOf s (bestOf (ranksIn s source group) (layoutOf s .routes) .at)))
-    unfolding routesOf ranksIn
-    by-rank = rw (listed-first (routeOf s) (layoutOf s .routes)) (chosen-by-rank (routeOf s) (layoutOf s .routes) source group right-routes)
+  pub by-rank : whichRoute (routesOf F s) source group
+      ≡ cond (eqb (bestOf (ranksIn F s source group) (layoutOf F s .routes) .rank) 0) Nothing
+      (Found (routeOf F s (bestOf (ranksIn F s source group) (layoutOf F s .routes) .at)))
+  unfolding routesOf ranksIn
+  by-rank = rw (listed-first (routeOf F s) (layoutOf F s .routes)) (chosen-by-rank (routeOf F s) (layoutOf F s .routes) source group right-routes)
 
-    pub chosen-none : (b : Best) → b ≡ bestOf (ranksIn s source group) (layoutOf s .routes) → b .rank ≡ 0
-        → Nothing ≡ whichRoute (routesOf s) source group
-    chosen-none b e z = rw (by-rank, ← e, eq-eqb (b .rank) 0 z)
+  pub chosen-none : (b : Best) → b ≡ bestOf (ranksIn F s source group) (layoutOf F s .routes) → b .rank ≡ 0
+      → Nothing ≡ whichRoute (routesOf F s) source group
+  chosen-none b e z = rw (by-rank, ← e, eq-eqb (b .rank) 0 z)
 
-    pub chosen-some : (b : Best) (r : Route) → b ≡ bestOf (ranksIn s source group) (layoutOf s .routes) → (b .rank ≡ 0 → ⊥)
-        → r ≡ routeOf s (b .at) → Found r ≡ whichRoute (routesOf s) source group
-    chosen-some b r e z f = rw (by-rank, ← e, ne-eqb (b .rank) 0 z, f)
+  pub chosen-some : (b : Best) (r : Route) → b ≡ bestOf (ranksIn F s source group) (layoutOf F s .routes) → (b .rank ≡ 0 → ⊥)
+      → r ≡ routeOf F s (b .at) → Found r ≡ whichRoute (routesOf F s) source group
+  chosen-some b r e z f = rw (by-rank, ← e, ne-eqb (b .rank) 0 z, f)

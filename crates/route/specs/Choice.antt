@@ -4,9 +4,9 @@ use mathlib.Core.Bool.{Bool, true, _&&_, cond}
 use mathlib.Core.List.{List, [], _∷_}
 use lib.Dec.{ltb, eqb}
 use Rattle.wire.specs.Addresses.{allOnes}
-use Rattle.entry.specs.Prefix.{samePrefix}
-use Rattle.entry.specs.Route.{sourceAndGroup, groupOnly, sourceOnly}
-use Rattle.entry.specs.declared.route.Route.{Route}
+use Rattle.prefix.specs.Prefix.{samePrefix}
+use Rattle.route_entry.specs.Route.{sourceAndGroup, groupOnly, sourceOnly}
+use Rattle.route_entry.specs.declared.Route.{Route}
 use Rattle.route.specs.declared.Chosen.{Chosen}
 use Rattle.route.specs.declared.Chosen.the-variants.{Found, Nothing}
 

@@ -6,11 +6,12 @@ use mathlib.Core.Bool.{Bool, true, false, not, _&&_, _||_, cond}
 use mathlib.Core.List.{List}
 use lib.Dec.{ltb, eqb}
 use Rattle.wire.specs.Addresses.{allOnes}
-use Rattle.entry.specs.Prefix.{addressBits, samePrefix}
-use Rattle.entry.specs.Interface.{isMulticast}
-use Rattle.entry.specs.Route.{groupOnly, sourceOnly}
-use Rattle.entry.specs.declared.interface.Interface.{Interface}
-use Rattle.entry.specs.declared.route.Route.{Route}
+use Rattle.format.specs.declared.Format.{Format}
+use Rattle.prefix.specs.Prefix.{addressBits, samePrefix}
+use Rattle.interface.specs.Interface.{isMulticast}
+use Rattle.route_entry.specs.Route.{groupOnly, sourceOnly}
+use Rattle.interface.specs.declared.Interface.{Interface}
+use Rattle.route_entry.specs.declared.Route.{Route}
 use Rattle.sheet.specs.Tables.{routeOf}
 use Rattle.route.specs.declared.Best.{Best}
 use Rattle.route.specs.Choice.{servesBoth, servesGroup, servesSource}
@@ -49,8 +50,8 @@ abbrev pub rankOf : ℕ → ℕ → Route → ℕ
 rankOf source group = rankBy (asBoth source group) (asGroup source group) (asSource source)
 
 -- the ranks of a sheet's routes
-unfoldable pub ranksIn : List ℕ → ℕ → ℕ → ℕ → ℕ
-ranksIn sheet source group k = rankOf source group (routeOf sheet k)
+unfoldable pub ranksIn : Format → List ℕ → ℕ → ℕ → ℕ → ℕ
+ranksIn F sheet source group k = rankOf source group (routeOf F sheet k)
 
 -- there is a source, and the route's source prefix matches it
 unfoldable pub ofSource : ℕ → Route → Bool

@@ -2,11 +2,11 @@
 -- in its subnet.
 use Prim.Native.Nat.{ℕ, zero, suc}
 use mathlib.Core.Bool.{Bool, true, false, _&&_, _||_, cond}
-use Rattle.entry.specs.Prefix.{samePrefix}
-use Rattle.entry.specs.Interface.{isMulticast}
-use Rattle.entry.specs.Route.{isRp, inMap}
-use Rattle.entry.specs.declared.interface.Interface.{Interface}
-use Rattle.entry.specs.declared.route.Route.{Route}
+use Rattle.prefix.specs.Prefix.{samePrefix}
+use Rattle.interface.specs.Interface.{isMulticast}
+use Rattle.route_entry.specs.Route.{isRp, inMap}
+use Rattle.interface.specs.declared.Interface.{Interface}
+use Rattle.route_entry.specs.declared.Route.{Route}
 use Rattle.route.specs.declared.Chosen.{Chosen}
 use Rattle.route.specs.declared.Chosen.the-variants.{Found, Nothing}
 

@@ -1,12 +1,14 @@
 // Which route serves a source and a group, and whether a router is the proper last hop for a client.
-use entry::Route;
+use format::Format;
+use route_entry::Route;
 use sheet::Layout;
 ghost use mathlib.Core.Bool.{true};
 ghost use mathlib.Core.Path.{_≡_};
 ghost use Prim.Native.Nat.{_+_, _≤_, _<_};
 ghost use lib.ListN.{length};
-ghost use Rattle.entry.specs.Prefix.{addressBits};
-ghost use Rattle.entry.specs.Route.{routeSize, routeAt, routeOk};
+ghost use Rattle.prefix.specs.Prefix.{addressBits};
+ghost use Rattle.format.specs.Sizes.{Sound, routeFields};
+ghost use Rattle.route_entry.specs.Route.{routeAt, routeOk};
 ghost use Rattle.sheet.specs.Sheet.{layoutOf};
 ghost use Rattle.sheet.specs.Tables.{interfaceOf, routesOf};
 ghost use Rattle.sheet.specs.Inside.{Beside};
@@ -37,26 +39,30 @@ struct Best {
 
 // Whether there is a source, and the source prefix of the route at a place matches it.
 fn of_source(s: &[u8], at: usize, source: u32) -> bool
-    requires { ⌜ (at + routeSize ≤ length (now s)) × (routeAt (now s) at .length ≤ addressBits) ⌝ }
+    requires { ⌜ (at + routeFields ≤ length (now s)) × (routeAt (now s) at .length ≤ addressBits) ⌝ }
     ensures { λ b. ⌜ b ≡ ofSource source (routeAt (now (s .entry)) at) ⌝ }
 {
     !wire::all_ones(source)
-        & entry::same_prefix(entry::length_at(s, at), entry::source_at(s, at), source)
+        & prefix::same_prefix(
+            route_entry::length_at(s, at),
+            route_entry::source_at(s, at),
+            source,
+        )
 }
 
 // Whether the route at a place serves a source and a group. Its kind says which fields are looked at; no other is read.
 fn serves(s: &[u8], at: usize, source: u32, group: u32) -> bool
-    requires { ⌜ (at + routeSize ≤ length (now s)) × (routeAt (now s) at .length ≤ addressBits) ⌝ }
+    requires { ⌜ (at + routeFields ≤ length (now s)) × (routeAt (now s) at .length ≤ addressBits) ⌝ }
     ensures { λ b. ⌜ b ≡ serves source group (routeAt (now (s .entry)) at) ⌝ }
 {
-    let kind = entry::kind_at(s, at);
-    if kind == entry::SOURCE_ONLY {
+    let kind = route_entry::kind_at(s, at);
+    if kind == route_entry::SOURCE_ONLY {
         return of_source(s, at, source);
     }
-    if entry::group_at(s, at) != group {
+    if route_entry::group_at(s, at) != group {
         return false;
     }
-    if kind == entry::GROUP_ONLY {
+    if kind == route_entry::GROUP_ONLY {
         return true;
     }
     of_source(s, at, source)
@@ -67,10 +73,10 @@ fn rank(kind: u8, bits: usize) -> usize
     requires { ⌜ bits ≤ addressBits ⌝ }
     ensures { λ n. ⌜ n ≡ rankAs kind bits ⌝ }
 {
-    if kind == entry::GROUP_ONLY {
+    if kind == route_entry::GROUP_ONLY {
         return GROUP_RANK + bits;
     }
-    if kind == entry::SOURCE_ONLY {
+    if kind == route_entry::SOURCE_ONLY {
         return SOURCE_RANK + bits;
     }
     BOTH_RANK + bits
@@ -87,8 +93,8 @@ fn better(b: Best, rank: usize, k: usize) -> Best
 }
 
 // The best so far, with the route at a place, which is route `k`.
-fn best_with(b: Best, s: &[u8], at: usize, k: usize, source: u32, group: u32) -> Best
-    requires { ⌜ (at + routeSize ≤ length (now s)) × (routeOk (layoutOf (now s) .interfaces) (routeAt (now s) at) ≡ true) ⌝ }
+fn best_with(f: Format, b: Best, s: &[u8], at: usize, k: usize, source: u32, group: u32) -> Best
+    requires { ⌜ (at + routeFields ≤ length (now s)) × (routeOk (layoutOf f (now s) .interfaces) (routeAt (now s) at) ≡ true) ⌝ }
     ensures { λ r. ⌜ r ≡ better b (rankOf source group (routeAt (now (s .entry)) at)) k ⌝ }
 {
     if !serves(s, at, source, group) {
@@ -96,13 +102,17 @@ fn best_with(b: Best, s: &[u8], at: usize, k: usize, source: u32, group: u32) ->
     }
     better(
         b,
-        rank(entry::kind_at(s, at), entry::length_at(s, at) as usize),
+        rank(
+            route_entry::kind_at(s, at),
+            route_entry::length_at(s, at) as usize,
+        ),
         k,
     )
 }
 
 // One pass over routes that stand side by side, so many from route `first` on; `at` is its place.
 fn best_in(
+    f: Format,
     s: &[u8],
     at: usize,
     first: usize,
@@ -111,62 +121,76 @@ fn best_in(
     source: u32,
     group: u32,
 ) -> Best
-    requires { ⌜ Beside (now s) first at count ⌝ }
-    requires { ⌜ before ≡ bestOf (ranksIn (now s) source group) first ⌝ }
-    ensures { λ b. ⌜ b ≡ bestOf (ranksIn (now (s .entry)) source group) (first + count) ⌝ }
+    requires { ⌜ Sound f ⌝ }
+    requires { ⌜ Beside f (now s) first at count ⌝ }
+    requires { ⌜ before ≡ bestOf (ranksIn f (now s) source group) first ⌝ }
+    ensures { λ b. ⌜ b ≡ bestOf (ranksIn f (now (s .entry)) source group) (first + count) ⌝ }
 {
     let mut b = before;
     let mut j: usize = 0;
     while j < count {
-        b = best_with(b, s, at + entry::ROUTE_SIZE * j, first + j, source, group);
+        b = best_with(f, b, s, at + f.route * j, first + j, source, group);
         j += 1;
     }
     b
 }
 
 // One pass over the routes of a valid sheet, block by block.
-fn best_of(s: &[u8], l: Layout, source: u32, group: u32) -> Best
-    requires { ⌜ l ≡ layoutOf (now s) ⌝ }
-    ensures { λ b. ⌜ b ≡ bestOf (ranksIn (now (s .entry)) source group) (layoutOf (now (s .entry)) .routes) ⌝ }
+fn best_of(f: Format, s: &[u8], l: Layout, source: u32, group: u32) -> Best
+    requires { ⌜ Sound f ⌝ }
+    requires { ⌜ l ≡ layoutOf f (now s) ⌝ }
+    ensures { λ b. ⌜ b ≡ bestOf (ranksIn f (now (s .entry)) source group) (layoutOf f (now (s .entry)) .routes) ⌝ }
 {
     let mut b = Best { rank: 0, at: 0 };
     let mut k: usize = 0;
     while k < l.routes {
-        let count = sheet::routes_beside(l, k);
-        b = best_in(s, sheet::route_place(l, k), k, count, b, source, group);
+        let count = sheet::routes_beside(f, l, k);
+        b = best_in(
+            f,
+            s,
+            sheet::route_place(f, l, k),
+            k,
+            count,
+            b,
+            source,
+            group,
+        );
         k += count;
     }
     b
 }
 
 // The route of a valid sheet for a source and a group; all ones stands for none of either.
-pub fn choose(s: &[u8], l: Layout, source: u32, group: u32) -> Chosen
-    requires { ⌜ l ≡ layoutOf (now s) ⌝ }
-    ensures { λ c. ⌜ c ≡ whichRoute (routesOf (now (s .entry))) source group ⌝ }
+pub fn choose(f: Format, s: &[u8], l: Layout, source: u32, group: u32) -> Chosen
+    requires { ⌜ Sound f ⌝ }
+    requires { ⌜ l ≡ layoutOf f (now s) ⌝ }
+    ensures { λ c. ⌜ c ≡ whichRoute (routesOf f (now (s .entry))) source group ⌝ }
 {
-    let b = best_of(s, l, source, group);
+    let b = best_of(f, s, l, source, group);
     if b.rank == 0 {
         return Chosen::Nothing;
     }
-    Chosen::Found(sheet::route(s, l, b.at))
+    Chosen::Found(sheet::route(f, s, l, b.at))
 }
 
 // Whether interface `k` has the lowest bit of what is left of a map, is multicast, and has the client in its subnet.
-fn reaches(s: &[u8], map: u64, k: usize, client: u32) -> bool
-    requires { ⌜ k < layoutOf (now s) .interfaces ⌝ }
-    ensures { λ b. ⌜ b ≡ reachesBy map client (interfaceOf (now (s .entry)) k) ⌝ }
+fn reaches(f: Format, s: &[u8], map: u64, k: usize, client: u32) -> bool
+    requires { ⌜ Sound f ⌝ }
+    requires { ⌜ k < layoutOf f (now s) .interfaces ⌝ }
+    ensures { λ b. ⌜ b ≡ reachesBy map client (interfaceOf f (now (s .entry)) k) ⌝ }
 {
     if map % 2 == 0 {
         return false;
     }
-    let i = sheet::interface(s, k);
-    entry::is_multicast(i) & entry::same_prefix(i.length, i.address, client)
+    let i = interface::interface_at(s, sheet::interface_place(f, k));
+    interface::is_multicast(i) & prefix::same_prefix(i.length, i.address, client)
 }
 
 // Whether some interface of a valid sheet in the would-forward map does so. None behind the last bit of the map is looked at.
-fn some_reaches(s: &[u8], l: Layout, r: Route, client: u32) -> bool
-    requires { ⌜ l ≡ layoutOf (now s) ⌝ }
-    ensures { λ b. ⌜ b ≡ someReaches (interfaceOf (now (s .entry))) r client (layoutOf (now (s .entry)) .interfaces) ⌝ }
+fn some_reaches(f: Format, s: &[u8], l: Layout, r: Route, client: u32) -> bool
+    requires { ⌜ Sound f ⌝ }
+    requires { ⌜ l ≡ layoutOf f (now s) ⌝ }
+    ensures { λ b. ⌜ b ≡ someReaches (interfaceOf f (now (s .entry))) r client (layoutOf f (now (s .entry)) .interfaces) ⌝ }
 {
     let mut k: usize = 0;
     while k < l.interfaces {
@@ -174,7 +198,7 @@ fn some_reaches(s: &[u8], l: Layout, r: Route, client: u32) -> bool
         if map == 0 {
             return false;
         }
-        if reaches(s, map, k, client) {
+        if reaches(f, s, map, k, client) {
             return true;
         }
         k += 1;
@@ -183,16 +207,17 @@ fn some_reaches(s: &[u8], l: Layout, r: Route, client: u32) -> bool
 }
 
 // Whether a router with a valid sheet is the proper last hop for a client, by the route chosen.
-pub fn last_hop(s: &[u8], l: Layout, c: Chosen, client: u32) -> bool
-    requires { ⌜ l ≡ layoutOf (now s) ⌝ }
-    ensures { λ b. ⌜ b ≡ properLastHop (interfaceOf (now (s .entry))) (layoutOf (now (s .entry)) .interfaces) c client ⌝ }
+pub fn last_hop(f: Format, s: &[u8], l: Layout, c: Chosen, client: u32) -> bool
+    requires { ⌜ Sound f ⌝ }
+    requires { ⌜ l ≡ layoutOf f (now s) ⌝ }
+    ensures { λ b. ⌜ b ≡ properLastHop (interfaceOf f (now (s .entry))) (layoutOf f (now (s .entry)) .interfaces) c client ⌝ }
 {
     match c {
         Chosen::Found(r) => {
-            if entry::is_rp(r) {
+            if route_entry::is_rp(r) {
                 return true;
             }
-            some_reaches(s, l, r, client)
+            some_reaches(f, s, l, r, client)
         }
         Chosen::Nothing => false,
     }

@@ -5,7 +5,7 @@ use route::Chosen;
 // Room for the longest sheet.
 const AREA: usize = 8192;
 
-fn print(r: entry::Route) {
+fn print(r: route_entry::Route) {
     tape::then(1);
     tape::then(r.kind as u64);
     tape::then(r.length as u64);
@@ -16,13 +16,13 @@ fn print(r: entry::Route) {
 
 fn ask(s: &[u8], source: u32, group: u32, client: u32) {
     let l = sheet::check(s);
-    let chosen = route::choose(s, l, source, group);
+    let chosen = route::choose(format::IPV4, s, l, source, group);
     tape::text(b" ->");
     match chosen {
         Chosen::Found(r) => print(r),
         Chosen::Nothing => tape::then(0),
     }
-    tape::whether(route::last_hop(s, l, chosen, client));
+    tape::whether(route::last_hop(format::IPV4, s, l, chosen, client));
     tape::end();
 }
 

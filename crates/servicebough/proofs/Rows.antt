@@ -17,6 +17,7 @@ use Rattle.drops.specs.Drop.{dropRoom}
 use Rattle.servicebough.specs.Ticks.{tickSize, tickBytes, TickMeets}
 use Rattle.servicebough.specs.Answers.{answerSize, walkedBytes, answerLeft, handed, walkHanded}
 use Rattle.wire.proofs.Behind.{three-written, four-written}
+use Rattle.format.specs.Sizes.{ipv4}
 
 module _ (k : Tick) (out : List ℕ) where
   -- too little room
@@ -64,7 +65,7 @@ module _ (w : Walk) (output answer : List ℕ) where
   no-answer h = simp (lt-ltb _ _ h)
 
   -- what a walk tells is what is handed over
-  pub walk-told : (r : Walked) (output′ answer′ : List ℕ) → answerSize ≤ length answer → Tells w output r output′ → answer′ ≡ answerLeft r answer
+  pub walk-told : (r : Walked) (output′ answer′ : List ℕ) → answerSize ≤ length answer → Tells ipv4 w output r output′ → answer′ ≡ answerLeft r answer
       → handed (r .end) output′ answer′ ≡ walkHanded w output answer
   unfolding walkHanded byFirst
   walk-told r output′ answer′ room t e =

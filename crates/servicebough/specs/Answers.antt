@@ -11,6 +11,7 @@ use Rattle.drops.specs.Drop.{dropRoom}
 use Rattle.engine.specs.Answer.{sentHome}
 use Rattle.yard.specs.declared.Walked.{Walked}
 use Rattle.yard.specs.Walk.{Walk, walkedOf}
+use Rattle.format.specs.Sizes.{ipv4}
 
 -- the bytes that are lent for the answer
 abbrev pub answerSize : ℕ
@@ -41,5 +42,5 @@ answerRows room = row dropRoom (ltb room answerSize) ∷ []
 -- past it stay
 unfoldable pub walkHanded : Walk → List ℕ → List ℕ → Handed
 walkHanded w output answer =
-    byFirst (λ number. handed number output answer) (handed (w .end) (splice output 0 (w .last)) (answerLeft (walkedOf w) answer))
+    byFirst (λ number. handed number output answer) (handed (w .end) (splice output 0 (w .last)) (answerLeft (walkedOf ipv4 w) answer))
     (answerRows (length answer))

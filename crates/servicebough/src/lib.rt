@@ -18,6 +18,7 @@ ghost use Rattle.loss.specs.Loss.{written, lossOf};
 ghost use Rattle.loss.specs.Difference.{differenceOf};
 ghost use Rattle.servicebough.specs.Ticks.{TickMeets};
 ghost use Rattle.servicebough.specs.Answers.{answerSize, answerLeft, handed, walkHanded};
+ghost use Rattle.format.specs.Sizes.{ipv4};
 
 // Bytes lent for the clock's r, y and time, and for the answer of a walk.
 const TICK_SIZE: usize = 24;
@@ -93,7 +94,7 @@ pub extern "C" fn bough_engine_step(
     output: &mut [u8],
     note: &mut [u8],
 ) -> u32
-    ensures { λ r. ⌜ StepMeets (arrival (now (message .entry)) destination receiving ttl) time (now (sheet .entry)) (now (recent .entry)) (now (output .entry)) (now (note .entry))
+    ensures { λ r. ⌜ StepMeets ipv4 (arrival (now (message .entry)) destination receiving ttl) time (now (sheet .entry)) (now (recent .entry)) (now (output .entry)) (now (note .entry))
         (outcome r (now (recent .exit)) (now (output .exit)) (now (note .exit))) ⌝ }
 {
     engine::step(
@@ -137,7 +138,7 @@ pub extern "C" fn bough_walk(
     answer: &mut [u8],
 ) -> u32
     ensures { λ n. ⌜ handed n (now (output .exit)) (now (answer .exit))
-        ≡ walkHanded (walkOf (now (yard .entry)) (now (times .entry)) (visit start (arrival (now (message .entry)) destination receiving ttl)) (length (now (output .entry))))
+        ≡ walkHanded (walkOf ipv4 (now (yard .entry)) (now (times .entry)) (visit start (arrival (now (message .entry)) destination receiving ttl)) (length (now (output .entry))))
         (now (output .entry)) (now (answer .entry)) ⌝ }
 {
     if answer.len() < ANSWER_SIZE {

@@ -8,7 +8,8 @@ use native.Mathlib.Nat.{eq-or-lt-of-le}
 use lib.Dec.{eqb}
 use borrow.Author.Tests.{eqb-true, eqb-false}
 use Rattle.rows.proofs.Laws.{cond-cases}
-use Rattle.entry.specs.declared.interface.Interface.{Interface}
+use Rattle.format.specs.declared.Format.{Format}
+use Rattle.interface.specs.declared.Interface.{Interface}
 use Rattle.sheet.specs.Every.{listed}
 use Rattle.sheet.specs.Sheet.{layoutOf}
 use Rattle.sheet.specs.Tables.{interfaceOf, interfacesOf, holderFrom, holderOf}
@@ -41,25 +42,25 @@ module _ (f : ℕ → Interface) (address : ℕ) where
       (λ e. (omega arith, omega arith, eqb-true (f i .address) address e, λ m l h p. omega arith))
       (λ e. later i end (holderFrom address (i + 1) (listed f (i + 1) n)) (eqb-false (f i .address) address e) (searches n (i + 1) end (omega arith)))
 
-module _ (s : List ℕ) (address : ℕ) where
-  searched : Searched (interfaceOf s) address 0 (layoutOf s .interfaces) (holderOf s address)
+module _ (F : Format) (s : List ℕ) (address : ℕ) where
+  searched : Searched (interfaceOf F s) address 0 (layoutOf F s .interfaces) (holderOf F s address)
   unfolding holderOf interfacesOf
-  searched = searches (interfaceOf s) address (layoutOf s .interfaces) 0 (layoutOf s .interfaces) (omega arith)
+  searched = searches (interfaceOf F s) address (layoutOf F s .interfaces) 0 (layoutOf F s .interfaces) (omega arith)
 
   -- who is found is an interface that holds the address, and no lower one does
-  module _ (i : ℕ) (found : holderOf s address ≡ At i) where
-    its : Searched (interfaceOf s) address 0 (layoutOf s .interfaces) (At i)
+  module _ (i : ℕ) (found : holderOf F s address ≡ At i) where
+    its : Searched (interfaceOf F s) address 0 (layoutOf F s .interfaces) (At i)
     its = rw found at searched
 
-    pub holder-there : i < layoutOf s .interfaces
+    pub holder-there : i < layoutOf F s .interfaces
     holder-there = its .1
 
-    pub holder-holds : interfaceOf s i .address ≡ address
+    pub holder-holds : interfaceOf F s i .address ≡ address
     holder-holds = its .2
 
-    pub holder-lowest : (m : ℕ) → m < i → interfaceOf s m .address ≡ address → ⊥
+    pub holder-lowest : (m : ℕ) → m < i → interfaceOf F s m .address ≡ address → ⊥
     holder-lowest m h = its .3 m (omega arith) h
 
   -- nobody is found only where none holds it
-  pub nobody-holds : holderOf s address ≡ Nowhere → (m : ℕ) → m < layoutOf s .interfaces → interfaceOf s m .address ≡ address → ⊥
+  pub nobody-holds : holderOf F s address ≡ Nowhere → (m : ℕ) → m < layoutOf F s .interfaces → interfaceOf F s m .address ≡ address → ⊥
   nobody-holds none m h = (rw none at searched) m (omega arith) h

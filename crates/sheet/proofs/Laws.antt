@@ -4,8 +4,12 @@
 pub use Rattle.sheet.proofs.Entries.{valid-told, interfaces-few}
 -- an interface, and a route, that is counted: the sheet is valid, and it keeps its rules
 pub use Rattle.sheet.proofs.Entries.{interface-valid, interface-few, interface-keeps, route-keeps}
--- where a route stands, and those beside it up to the end of its block
-pub use Rattle.sheet.proofs.Reading.{route-placed, routes-beside}
+-- where an interface stands, and that what is read there is that interface
+pub use Rattle.sheet.proofs.Reading.{place-within, interface-told}
+-- where a route stands, and those beside it up to the end of its block, of which there are some
+pub use Rattle.sheet.proofs.Reading.{route-placed, routes-beside, beside-some}
+-- a valid sheet has a first block, in which its switches stand
+pub use Rattle.sheet.proofs.Reading.{valid-long}
 -- who holds an address: an interface of the sheet, the lowest that does; nobody only where none does
 pub use Rattle.sheet.proofs.Holders.{holder-there, holder-holds, holder-lowest, nobody-holds}
 -- tests one after the other: one more that passes, and one that fails

@@ -8,8 +8,8 @@ use lib.ListN.{length}
 use borrow.Author.Tests.{le-leb, not-true, not-false}
 use Rattle.wire.proofs.Laws.{wholes}
 use Rattle.block.specs.Block.{blockSize, entriesEach}
-use Rattle.entry.specs.Interface.{interfaceSize, mostInterfaces}
-use Rattle.entry.specs.Route.{routeSize}
+use Rattle.format.specs.declared.Format.{Format}
+use Rattle.interface.specs.Interface.{mostInterfaces}
 use Rattle.sheet.specs.Every.{every}
 use Rattle.sheet.specs.Sheet.{mostBlocks, sheetSizeOk, blocks, interfaceBlocks, entriesIn, interfacesIn, routesIn, blockOkAt, validSheet, noLayout, counted, layoutOf}
 use Rattle.sheet.specs.Inside.{Leading, blockOkWith}
@@ -19,19 +19,19 @@ use Rattle.sheet.proofs.Entries.{layout-cases, layout-valid}
 use Rattle.sheet.proofs.Leading.{leading-all, leading-valid}
 
 -- the rules on a block, with the sheet's own interface blocks and interfaces
-same-rules : (s : List ℕ) → blockOkAt s ≡ blockOkWith s (interfaceBlocks s) (interfacesIn s)
+same-rules : (F : Format) (s : List ℕ) → blockOkAt F s ≡ blockOkWith F s (interfaceBlocks s) (interfacesIn F s)
 unfolding blockOkAt blockOkWith
-same-rules s = refl
+same-rules F s = refl
 
 -- a sheet that cannot be valid
-refused : (s : List ℕ) (r : Layout) → (Valid s → ⊥) → r ≡ noLayout → r ≡ layoutOf s
-refused s r no′ f = layout-cases (λ (l : Layout). r ≡ l) s (λ e. absurd (no′ (valid s e))) (λ e. f)
+refused : (F : Format) (s : List ℕ) (r : Layout) → (Valid F s → ⊥) → r ≡ noLayout → r ≡ layoutOf F s
+refused F s r no′ f = layout-cases F (λ (l : Layout). r ≡ l) s (λ e. absurd (no′ (valid F s e))) (λ e. f)
 
 -- what the code has found out, test by test
 module _ (s : List ℕ) (size : Bool) (es : size ≡ sheetSizeOk (length s)) where
-  pub bad-size : (r : Layout) → not size ≡ true → r ≡ noLayout → r ≡ layoutOf s
+  pub bad-size : (F : Format) (r : Layout) → not size ≡ true → r ≡ noLayout → r ≡ layoutOf F s
   unfolding layoutOf validSheet
-  bad-size r h f = f ∙ rw (← es, not-true size h)
+  bad-size F r h f = f ∙ rw (← es, not-true size h)
 
   module _ (h : not size ≡ false) where
     pub few-blocks : blocks s ≤ mostBlocks
@@ -44,30 +44,31 @@ module _ (s : List ℕ) (size : Bool) (es : size ≡ sheetSizeOk (length s)) whe
       pub few-rest : m + (blocks s - m) ≤ mostBlocks
       few-rest = omega (arith, lead .within, few-blocks)
 
-      pub no-interface-block : (r : Layout) → m ≡ 0 → r ≡ noLayout → r ≡ layoutOf s
-      no-interface-block r z = refused s r (λ v. omega (arith, v .some, leading-valid s m lead v))
+      module _ (F : Format) where
+        pub no-interface-block : (r : Layout) → m ≡ 0 → r ≡ noLayout → r ≡ layoutOf F s
+        no-interface-block r z = refused F s r (λ v. omega (arith, v .some, leading-valid F s m lead v))
 
-      module _ (some : m ≡ 0 → ⊥) (interfaces : ℕ) (ei : interfaces ≡ entriesIn s (entriesEach interfaceSize) 0 m) where
-        interfaces-told : m ≡ interfaceBlocks s → interfaces ≡ interfacesIn s
-        unfolding interfacesIn
-        interfaces-told e = ei ∙ rw e
+        module _ (some : m ≡ 0 → ⊥) (interfaces : ℕ) (ei : interfaces ≡ entriesIn s (entriesEach F.interface) 0 m) where
+          interfaces-told : m ≡ interfaceBlocks s → interfaces ≡ interfacesIn F s
+          unfolding interfacesIn
+          interfaces-told e = ei ∙ rw e
 
-        pub many-interfaces : (r : Layout) → mostInterfaces < interfaces → r ≡ noLayout → r ≡ layoutOf s
-        many-interfaces r k = refused s r (λ v. omega (arith, v .few, interfaces-told (leading-valid s m lead v)))
+          pub many-interfaces : (r : Layout) → mostInterfaces < interfaces → r ≡ noLayout → r ≡ layoutOf F s
+          many-interfaces r k = refused F s r (λ v. omega (arith, v .few, interfaces-told (leading-valid F s m lead v)))
 
-        module _ (few : interfaces ≤ mostInterfaces) (ok : Bool) (eo : ok ≡ every (blockOkWith s m interfaces) (blocks s)) where
-          told : m ≡ interfaceBlocks s → ok ≡ every (blockOkAt s) (blocks s)
-          told e = eo ∙ rw (same-rules s, ← e, ← interfaces-told e)
+          module _ (few : interfaces ≤ mostInterfaces) (ok : Bool) (eo : ok ≡ every (blockOkWith F s m interfaces) (blocks s)) where
+            told : m ≡ interfaceBlocks s → ok ≡ every (blockOkAt F s) (blocks s)
+            told e = eo ∙ rw (same-rules F s, ← e, ← interfaces-told e)
 
-          pub bad-block : (r : Layout) → not ok ≡ true → r ≡ noLayout → r ≡ layoutOf s
-          bad-block r k = refused s r (λ v. let z : _≡_ {A = ℕ} 0 1 = cc (told (leading-valid s m lead v), v .all, not-true ok k) in omega arith)
+            pub bad-block : (r : Layout) → not ok ≡ true → r ≡ noLayout → r ≡ layoutOf F s
+            bad-block r k = refused F s r (λ v. let z : _≡_ {A = ℕ} 0 1 = cc (told (leading-valid F s m lead v), v .all, not-true ok k) in omega arith)
 
-          pub laid-out : (routes : ℕ) → routes ≡ entriesIn s (entriesEach routeSize) m (blocks s - m) → not ok ≡ false
-              → record { valid = true; blocks = m; interfaces = interfaces; routes = routes } ≡ layoutOf s
-          unfolding validSheet counted routesIn
-          laid-out routes er k =
-              let e : m ≡ interfaceBlocks s = leading-all s m lead interfaces (sym eo ∙ not-false ok k) in
-              let one : 1 ≤ interfaceBlocks s = omega arith in
-              let f : interfacesIn s ≤ mostInterfaces = omega (arith, interfaces-told e) in
-              let v : validSheet s ≡ true = rw (← es, not-false size h, le-leb 1 (interfaceBlocks s) one, le-leb (interfacesIn s) mostInterfaces f) (sym (told e) ∙ not-false ok k) in
-              rw (layout-valid s v, er, interfaces-told e, e)
+            pub laid-out : (routes : ℕ) → routes ≡ entriesIn s (entriesEach F.route) m (blocks s - m) → not ok ≡ false
+                → record { valid = true; blocks = m; interfaces = interfaces; routes = routes } ≡ layoutOf F s
+            unfolding validSheet counted routesIn
+            laid-out routes er k =
+                let e : m ≡ interfaceBlocks s = leading-all F s m lead interfaces (sym eo ∙ not-false ok k) in
+                let one : 1 ≤ interfaceBlocks s = omega arith in
+                let f : interfacesIn F s ≤ mostInterfaces = omega (arith, interfaces-told e) in
+                let v : validSheet F s ≡ true = rw (← es, not-false size h, le-leb 1 (interfaceBlocks s) one, le-leb (interfacesIn F s) mostInterfaces f) (sym (told e) ∙ not-false ok k) in
+                rw (layout-valid F s v, er, interfaces-told e, e)

@@ -12,8 +12,7 @@ use borrow.Author.Tests.{lt-ltb, le-ltb, eq-eqb, ne-eqb, eqb-true, ltb-true, ltb
 use Rattle.rows.proofs.Laws.{decided, parts}
 use Rattle.wire.specs.Numbers.{byteAt}
 use Rattle.block.specs.Block.{blockSize, kindOf, frameOk}
-use Rattle.entry.specs.Interface.{interfaceSize}
-use Rattle.entry.specs.Route.{routeSize}
+use Rattle.format.specs.declared.Format.{Format}
 use Rattle.sheet.specs.Every.{every}
 use Rattle.sheet.specs.Rules.{interfaceKind, routeKind, interfaceRight, routeRight, blockOk}
 use Rattle.sheet.specs.Sheet.{blocks, sheetBlock, interfaceBlocksIn, interfaceBlocks, interfacesIn, blockOkAt}
@@ -35,17 +34,17 @@ pub none-next : (s : List ℕ) (n k : ℕ) → FirstOnes s k → k ≤ n → n �
 none-next s n k before h e = record { within = h; first = before; next = λ l z. omega arith }
 
 -- a block by its number, where there are m interface blocks
-pub interface-block : (s : List ℕ) (k m interfaces : ℕ) (x : Bool) → k < m
-    → x ≡ blockOk interfaceKind interfaceSize interfaceRight k (eqb (k + 1) m) (take (blockSize * k + blockSize - blockSize * k) (drop (blockSize * k) s))
-    → x ≡ blockOkWith s m interfaces k
+pub interface-block : (F : Format) (s : List ℕ) (k m interfaces : ℕ) (x : Bool) → k < m
+    → x ≡ blockOk interfaceKind F.interface (interfaceRight F) k (eqb (k + 1) m) (take (blockSize * k + blockSize - blockSize * k) (drop (blockSize * k) s))
+    → x ≡ blockOkWith F s m interfaces k
 unfolding blockOkWith
-interface-block s k m interfaces x h f = rw (lt-ltb k m h) (rw add-sub-cancel-left at f)
+interface-block F s k m interfaces x h f = rw (lt-ltb k m h) (rw add-sub-cancel-left at f)
 
-pub route-block : (s : List ℕ) (k m interfaces : ℕ) (x : Bool) → m ≤ k
-    → x ≡ blockOk routeKind routeSize (routeRight interfaces) k (eqb (k + 1) (blocks s)) (take (blockSize * k + blockSize - blockSize * k) (drop (blockSize * k) s))
-    → x ≡ blockOkWith s m interfaces k
+pub route-block : (F : Format) (s : List ℕ) (k m interfaces : ℕ) (x : Bool) → m ≤ k
+    → x ≡ blockOk routeKind F.route (routeRight interfaces) k (eqb (k + 1) (blocks s)) (take (blockSize * k + blockSize - blockSize * k) (drop (blockSize * k) s))
+    → x ≡ blockOkWith F s m interfaces k
 unfolding blockOkWith
-route-block s k m interfaces x h f = rw (le-ltb k m h) (rw add-sub-cancel-left at f)
+route-block F s k m interfaces x h f = rw (le-ltb k m h) (rw add-sub-cancel-left at f)
 
 -- blocks that are all counted, and blocks of which none is
 all-counted : (s : List ℕ) (n : ℕ) → FirstOnes s n → interfaceBlocksIn s n ≡ n
@@ -72,27 +71,27 @@ block-kind : (kind size number : ℕ) (right : List ℕ → ℕ → Bool) (partl
 unfolding blockOk frameOk
 block-kind kind size number right partly b e = eqb-true (kindOf b) kind (search parts depth 8)
 
-module _ (s : List ℕ) (m : ℕ) (lead : Leading s (blocks s) m) where
+module _ (F : Format) (s : List ℕ) (m : ℕ) (lead : Leading s (blocks s) m) where
   -- every block keeps its rules: behind the first m there are route blocks alone
-  pub leading-all : (interfaces : ℕ) → every (blockOkWith s m interfaces) (blocks s) ≡ true → m ≡ interfaceBlocks s
+  pub leading-all : (interfaces : ℕ) → every (blockOkWith F s m interfaces) (blocks s) ≡ true → m ≡ interfaceBlocks s
   unfolding interfaceBlocks blockOkWith
   leading-all interfaces kept =
       let n : ℕ = blocks s - m in
       let e : blocks s ≡ m + n = omega (arith, lead .within) in
       rw e (sym (none-counted s m n (λ k l h z.
-      let q = block-kind routeKind routeSize k (routeRight interfaces) (eqb (k + 1) (blocks s)) (sheetBlock s k)
-      (rw (le-ltb k m l) at (every-one (blockOkWith s m interfaces) (blocks s) k kept (omega arith))) in
+      let q = block-kind routeKind F.route k (routeRight interfaces) (eqb (k + 1) (blocks s)) (sheetBlock s k)
+      (rw (le-ltb k m l) at (every-one (blockOkWith F s m interfaces) (blocks s) k kept (omega arith))) in
       omega arith) ∙ all-counted s m (lead .first)))
 
   -- the sheet is valid: the next block is no interface block, and each of the first is one
-  pub leading-valid : Valid s → m ≡ interfaceBlocks s
+  pub leading-valid : Valid F s → m ≡ interfaceBlocks s
   unfolding blockOkAt
   leading-valid v =
       let M : ℕ = interfaceBlocks s in
       neither m M
       (λ h.
       lead .next (omega (arith, v .within))
-      (block-kind interfaceKind interfaceSize m interfaceRight (eqb (m + 1) M) (sheetBlock s m) (rw (lt-ltb m M h) at (v .each m (omega (arith, v .within))))))
+      (block-kind interfaceKind F.interface m (interfaceRight F) (eqb (m + 1) M) (sheetBlock s m) (rw (lt-ltb m M h) at (v .each m (omega (arith, v .within))))))
       (λ h.
-      let q = block-kind routeKind routeSize M (routeRight (interfacesIn s)) (eqb (M + 1) (blocks s)) (sheetBlock s M) (rw (le-ltb M M (omega arith)) at (v .each M (omega (arith, lead .within)))) in
+      let q = block-kind routeKind F.route M (routeRight (interfacesIn F s)) (eqb (M + 1) (blocks s)) (sheetBlock s M) (rw (le-ltb M M (omega arith)) at (v .each M (omega (arith, lead .within)))) in
       omega (arith, lead .first M h))

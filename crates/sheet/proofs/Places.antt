@@ -3,18 +3,50 @@ use Prim.Native.Nat.{ℕ, zero, suc, _+_, _*_, _-_, _/_, _%_, _≤_, _<_}
 use mathlib.Core.Bool.{Bool, true}
 use mathlib.Core.List.{List}
 use mathlib.Core.Logic.{⊎-elim}
-use mathlib.Core.Path.{_≡_, ap}
+use mathlib.Core.Path.{_≡_, sym, ap, _∙_}
 use native.Mathlib.Omega.{arith}
-use native.Mathlib.Nat.{mod-lt, div-add-mod', div-lt-iff-lt-mul, eq-or-lt-of-le}
+use native.Mathlib.Nat.{zero-add, mul-add, mul-le-mul, mul-le-mul-left, mul-le-mul-right, mod-lt, mod-le, mod-add-mod, mod-eq-of-lt, div-le-self, div-eq-of-lt, div-add-mod', add-mul-div-right, le-div-iff-mul-le, div-lt-iff-lt-mul, eq-or-lt-of-le}
 use lib.Dec.{eqb}
 use lib.ListN.{length}
 use borrow.Author.Tests.{ne-eqb}
-use Rattle.block.specs.Block.{blockSize, entriesRoom, usedIn, entriesEach, placeInBlock}
+use Rattle.block.specs.Block.{blockSize, entriesAt, entriesRoom, usedIn, entriesEach, placeInBlock}
 use Rattle.block.proofs.Laws.{entries-fit, InUse, frame-filled}
 use Rattle.sheet.specs.Sheet.{sheetBlock, entriesIn}
 use Rattle.sheet.specs.Tables.{placeOf}
 use Rattle.sheet.proofs.Numbered.{every-one}
 use Rattle.sheet.proofs.Valid.{Run}
+
+-- a block has room for an entry of a size that is not too large
+pub some-room : (size : ℕ) → 0 < size → size ≤ entriesRoom → 0 < entriesEach size
+some-room size some most = omega (arith, le-div-iff-mul-le {k = size} {x = 1} {y = entriesRoom} some .1 (omega arith))
+
+-- the place of an entry with a low number is low, and past that number
+pub place-low : (size i most : ℕ) → size ≤ entriesRoom → i ≤ most → placeOf size 0 i ≤ blockSize * most + (entriesAt + entriesRoom * most)
+place-low size i most h k =
+    let j : i % entriesEach size ≤ most = omega (arith, mod-le i (entriesEach size)) in
+    omega (arith, div-le-self i (entriesEach size), mul-le-mul h j)
+
+pub place-past : (size first i : ℕ) → 0 < size → i < placeOf size first i
+place-past size first i some =
+    let each : ℕ = entriesEach size in
+    omega (arith, div-add-mod' i each, mul-le-mul-left (i / each) (div-le-self entriesRoom size), mul-le-mul-right (i % each) some)
+
+-- entries of one block stand side by side
+module _ (size i j : ℕ) (near : j < entriesEach size - i % entriesEach size) where
+  abbrev each : ℕ
+  each = entriesEach size
+
+  same-block : (i + j) / each ≡ i / each
+  same-block =
+      let e : i + j ≡ i % each + j + i / each * each = omega (arith, div-add-mod' i each) in
+      ap (λ (n : ℕ). n / each) e ∙ add-mul-div-right (i % each + j) (i / each) (omega arith)
+      ∙ ap (λ (n : ℕ). n + i / each) (div-eq-of-lt (omega arith)) ∙ zero-add (i / each)
+
+  so-far-on : (i + j) % each ≡ i % each + j
+  so-far-on = sym (mod-add-mod i each j) ∙ mod-eq-of-lt (omega arith)
+
+  pub in-row : (first : ℕ) → placeOf size first i + size * j ≡ placeOf size first (i + j)
+  in-row first = rw (same-block, so-far-on) (omega (arith, mul-add size (i % each) j))
 
 -- where there is an entry there is a block
 in-blocks : (s : List ℕ) (each first count i : ℕ) → i < entriesIn s each first count

@@ -4,16 +4,19 @@ use mathlib.Core.Bool.{true, cond}
 use mathlib.Core.List.{List}
 use mathlib.Core.Path.{_≡_, refl, sym, ap, _∙_}
 use native.Mathlib.Omega.{arith}
-use native.Mathlib.Nat.{sub-zero}
+use native.Mathlib.Nat.{sub-zero, mod-lt}
 use lib.Dec.{eqb}
 use lib.ListN.{length}
 use borrow.Author.Tests.{eq-eqb, ne-eqb}
 use Rattle.wire.specs.Numbers.{be16, be32}
 use Rattle.wire.proofs.Laws.{be-part}
-use Rattle.block.specs.Block.{blockSize, switchesAt, entriesEach}
-use Rattle.entry.specs.Interface.{interfaceSize, mostInterfaces, interfaceAt}
-use Rattle.entry.specs.Route.{routeSize, routeAt}
-use Rattle.entry.specs.declared.route.Route.{Route}
+use Rattle.block.specs.Block.{blockSize, switchesAt, entriesRoom, entriesEach}
+use Rattle.format.specs.Sizes.{Sound, interfaceFields, routeFields}
+use Rattle.format.specs.declared.Format.{Format}
+use Rattle.interface.specs.Interface.{mostInterfaces, interfaceAt}
+use Rattle.route_entry.specs.Route.{routeAt}
+use Rattle.interface.specs.declared.Interface.{Interface}
+use Rattle.route_entry.specs.declared.Route.{Route}
 use Rattle.sheet.specs.Every.{listed}
 use Rattle.sheet.specs.Rules.{prohibits}
 use Rattle.sheet.specs.Sheet.{mostBlocks, interfaceBlocks, counted, layoutOf}
@@ -23,100 +26,119 @@ use Rattle.sheet.specs.declared.layout.Layout.{Layout}
 use Rattle.sheet.specs.declared.tables.Holding.{Holding}
 use Rattle.sheet.specs.declared.tables.Holding.the-variants.{At, Nowhere}
 use Rattle.sheet.proofs.Valid.{valid}
+use Rattle.sheet.proofs.Places.{some-room, place-low, place-past, in-row}
 use Rattle.sheet.proofs.Entries.{layout-valid, valid-told, interface-few, interface-bytes, route-valid, route-bytes}
 
--- an interface's place
-pub place-within : (s : List ℕ) (i at : ℕ) → at ≡ placeOf interfaceSize 0 i → i < layoutOf s .interfaces → at + interfaceSize ≤ length s
-place-within s i at e h = omega (arith, interface-bytes s i h)
+module _ {F : Format} (sound : Sound F) where
+  -- an interface's place
+  pub interface-each : 0 < entriesEach F.interface
+  interface-each = some-room F.interface (omega arith) (omega arith)
 
--- a route's place
-module _ (s : List ℕ) (l : Layout) (k : ℕ) (el : l ≡ layoutOf s) (there : k < l .routes) where
-  routes-there : k < layoutOf s .routes
-  routes-there = rw el at there
+  pub interface-low : (i : ℕ) → i < mostInterfaces → placeOf F.interface 0 i ≤ (blockSize + entriesRoom) * mostInterfaces
+  interface-low i h = omega (arith, place-low F.interface i (mostInterfaces - 1) (omega arith) (omega arith))
 
-  blocks-told : l .blocks ≡ interfaceBlocks s
-  unfolding counted
-  blocks-told = ap (λ (n : Layout). n .blocks) (el ∙ layout-valid s (route-valid s k routes-there))
+  pub place-within : (s : List ℕ) (i at : ℕ) → at ≡ placeOf F.interface 0 i → i < layoutOf F s .interfaces → at + interfaceFields ≤ length s
+  place-within s i at e h = omega (arith, interface-bytes sound s i h)
 
-  pub route-placed : placeOf routeSize (l .blocks) k + routeSize ≤ blockSize * mostBlocks
-  route-placed =
-      let v = valid s (route-valid s k routes-there) in
-      rw blocks-told (omega (arith, route-bytes s k routes-there, v .size .whole, v .size .few))
+  -- what is read there is interface i
+  pub interface-told : (s : List ℕ) (i at : ℕ) (x : Interface) → at ≡ placeOf F.interface 0 i → x ≡ interfaceAt s at → x ≡ interfaceOf F s i
+  unfolding interfaceOf
+  interface-told s i at x e f = f ∙ rw e
 
-  pub route-within : (at : ℕ) → at ≡ placeOf routeSize (l .blocks) k → at + routeSize ≤ length s
-  route-within at e = rw (e, blocks-told) (route-bytes s k routes-there)
+  -- a route's place
+  pub route-each : 0 < entriesEach F.route
+  route-each = some-room F.route (omega arith) (omega arith)
 
-  pub route-read : (at : ℕ) (r : Route) → at ≡ placeOf routeSize (l .blocks) k → r ≡ routeAt s at → r ≡ routeOf s k
-  unfolding routeOf
-  route-read at r e f = f ∙ rw (e, blocks-told)
+  pub route-next : (k : ℕ) → k % entriesEach F.route < entriesEach F.route
+  route-next k = mod-lt k route-each
 
--- a route begins past its number
-place-past : (first k : ℕ) → k < placeOf routeSize first k
-place-past first k = omega arith
+  -- some stand side by side from it on
+  pub beside-some : (k routes : ℕ) → k < routes → 0 < min (routes - k) (entriesEach F.route - k % entriesEach F.route)
+  beside-some k routes h = omega (arith, route-next k)
 
--- the routes beside a route, up to the end of its block
-module _ (s : List ℕ) (l : Layout) (k : ℕ) (el : l ≡ layoutOf s) (there : k < l .routes) (at count : ℕ)
-    (placed : at ≡ placeOf routeSize (l .blocks) k)
-    (beside : count ≡ min (l .routes - k) (entriesEach routeSize - k % entriesEach routeSize)) where
-  beside-some : 0 < count
-  beside-some = omega arith
+  module _ (s : List ℕ) (l : Layout) (k : ℕ) (el : l ≡ layoutOf F s) (there : k < l .routes) where
+    routes-there : k < layoutOf F s .routes
+    routes-there = rw el at there
 
-  in-row : (j : ℕ) → j < count → at + routeSize * j ≡ placeOf routeSize (l .blocks) (k + j)
-  in-row j h = omega arith
+    blocks-told : l .blocks ≡ interfaceBlocks s
+    unfolding counted
+    blocks-told = ap (λ (n : Layout). n .blocks) (el ∙ layout-valid F s (route-valid F s k routes-there))
 
-  last-low : k + (count - 1) < at + routeSize * (count - 1)
-  last-low = rw (in-row (count - 1) (omega (arith, beside-some))) (place-past (l .blocks) (k + (count - 1)))
+    pub route-placed : placeOf F.route (l .blocks) k + F.route ≤ blockSize * mostBlocks
+    route-placed =
+        let v = valid F s (route-valid F s k routes-there) in
+        rw blocks-told (omega (arith, route-bytes sound s k routes-there, v .size .whole, v .size .few))
 
-  last-within : at + routeSize * (count - 1) + routeSize ≤ length s
-  last-within =
-      let j : ℕ = count - 1 in
-      let h : j < count = omega (arith, beside-some) in
-      route-within s l (k + j) el (omega arith) (at + routeSize * j) (in-row j h)
+    route-whole : (at : ℕ) → at ≡ placeOf F.route (l .blocks) k → at + F.route ≤ length s
+    route-whole at e = rw (e, blocks-told) (route-bytes sound s k routes-there)
 
-  pub routes-beside : Beside s k at count
-  routes-beside =
-      record {
-        there = rw (← el) (omega arith);
-        few = omega (arith, last-low, last-within);
-        bytes = omega (arith, last-within, beside-some);
-        each = λ j h. sym (route-read s l (k + j) el (omega arith) (at + routeSize * j) (routeAt s (at + routeSize * j)) (in-row j h) refl);
-      }
+    pub route-within : (at : ℕ) → at ≡ placeOf F.route (l .blocks) k → at + routeFields ≤ length s
+    route-within at e = omega (arith, route-whole at e)
+
+    pub route-read : (at : ℕ) (r : Route) → at ≡ placeOf F.route (l .blocks) k → r ≡ routeAt s at → r ≡ routeOf F s k
+    unfolding routeOf
+    route-read at r e f = f ∙ rw (e, blocks-told)
+
+  -- the routes beside a route, up to the end of its block
+  module _ (s : List ℕ) (l : Layout) (k : ℕ) (el : l ≡ layoutOf F s) (there : k < l .routes) (at count : ℕ)
+      (placed : at ≡ placeOf F.route (l .blocks) k)
+      (beside : count ≡ min (l .routes - k) (entriesEach F.route - k % entriesEach F.route)) where
+    some-beside : 0 < count
+    some-beside = rw beside (beside-some k (l .routes) there)
+
+    beside-row : (j : ℕ) → j < count → at + F.route * j ≡ placeOf F.route (l .blocks) (k + j)
+    beside-row j h = rw placed (in-row F.route k j (omega arith) (l .blocks))
+
+    last-low : k + (count - 1) < at + F.route * (count - 1)
+    last-low = rw (beside-row (count - 1) (omega (arith, some-beside))) (place-past F.route (l .blocks) (k + (count - 1)) (omega arith))
+
+    row-within : (j : ℕ) → j < count → at + F.route * j + F.route ≤ length s
+    row-within j h = route-whole s l (k + j) el (omega arith) (at + F.route * j) (beside-row j h)
+
+    pub routes-beside : Beside F s k at count
+    routes-beside =
+        record {
+          there = rw (← el) (omega arith);
+          few = omega (arith, last-low, row-within (count - 1) (omega (arith, some-beside)));
+          bytes = row-within;
+          each = λ j h. sym (route-read s l (k + j) el (omega arith) (at + F.route * j) (routeAt s (at + F.route * j)) (beside-row j h) refl);
+        }
 
 -- the switches
-pub valid-long : (s : List ℕ) → layoutOf s .valid ≡ true → blockSize ≤ length s
-valid-long s e = let v = valid s (sym (valid-told s) ∙ e) in omega (arith, v .size .whole, v .size .some)
+pub valid-long : (F : Format) (s : List ℕ) → layoutOf F s .valid ≡ true → blockSize ≤ length s
+valid-long F s e = let v = valid F s (sym (valid-told F s) ∙ e) in omega (arith, v .size .whole, v .size .some)
 
 pub switches-read : (s : List ℕ) (x : ℕ) → x ≡ be16 s switchesAt → eqb x prohibits ≡ prohibitedOf s
 unfolding prohibitedOf
 switches-read s x e = rw (e, be-part 1 s 0 blockSize switchesAt (omega arith))
 
 -- the holder of an address: the search among n interfaces, from interface i on
-pub searched : List ℕ → ℕ → ℕ → ℕ → Holding
-searched s address i n = holderFrom address i (listed (interfaceOf s) i n)
+pub searched : Format → List ℕ → ℕ → ℕ → ℕ → Holding
+searched F s address i n = holderFrom address i (listed (interfaceOf F s) i n)
 
-module _ (s : List ℕ) (n : ℕ) (all : n ≡ layoutOf s .interfaces) where
+module _ (F : Format) (s : List ℕ) (n : ℕ) (all : n ≡ layoutOf F s .interfaces) where
   pub few-there : (i : ℕ) → i < n → i < mostInterfaces
-  few-there i h = interface-few s i (rw all at h)
+  few-there i h = interface-few F s i (rw all at h)
 
-  pub address-within : (i at : ℕ) → i < n → at ≡ placeOf interfaceSize 0 i → at + 4 ≤ length s
-  address-within i at h e = omega (arith, place-within s i at e (rw all at h))
+  pub address-within : Sound F → (i at : ℕ) → i < n → at ≡ placeOf F.interface 0 i → at + 4 ≤ length s
+  address-within sound i at h e = omega (arith, place-within sound s i at e (rw all at h))
 
-  pub search-start : (address : ℕ) → holderOf s address ≡ searched s address 0 (n - 0)
+  pub search-start : (address : ℕ) → holderOf F s address ≡ searched F s address 0 (n - 0)
   unfolding holderOf searched interfacesOf
   search-start address = rw (sub-zero, all)
 
-module _ (s : List ℕ) (address i n : ℕ) (onwards : holderOf s address ≡ searched s address i (n - i)) where
-  pub search-none : n ≤ i → Nowhere ≡ holderOf s address
+module _ (F : Format) (s : List ℕ) (address i n : ℕ) (onwards : holderOf F s address ≡ searched F s address i (n - i)) where
+  pub search-none : n ≤ i → Nowhere ≡ holderOf F s address
   unfolding searched holderFrom listed
   search-none h = let e : n - i ≡ 0 = omega arith in sym (rw e at onwards)
 
-  module _ (more : i < n) (x at : ℕ) (there : at ≡ placeOf interfaceSize 0 i) (read : x ≡ be32 s at) where
-    step : holderOf s address ≡ cond (eqb x address) (At i) (searched s address (i + 1) (n - (i + 1)))
+  module _ (more : i < n) (x at : ℕ) (there : at ≡ placeOf F.interface 0 i) (read : x ≡ be32 s at) where
+    step : holderOf F s address ≡ cond (eqb x address) (At i) (searched F s address (i + 1) (n - (i + 1)))
     unfolding searched holderFrom listed interfaceOf interfaceAt
     step = let e : n - i ≡ suc (n - (i + 1)) = omega arith in rw (read, there) (rw e at onwards)
 
-    pub search-found : x ≡ address → At i ≡ holderOf s address
+    pub search-found : x ≡ address → At i ≡ holderOf F s address
     search-found e = sym (rw (eq-eqb x address e) at step)
 
-    pub search-on : (x ≡ address → ⊥) → holderOf s address ≡ searched s address (i + 1) (n - (i + 1))
+    pub search-on : (x ≡ address → ⊥) → holderOf F s address ≡ searched F s address (i + 1) (n - (i + 1))
     search-on e = rw (ne-eqb x address e) at step

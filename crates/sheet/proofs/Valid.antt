@@ -9,8 +9,8 @@ use lib.ListN.{length}
 use borrow.Author.Tests.{lt-ltb, le-ltb, leb-true}
 use Rattle.rows.proofs.Laws.{cond-cases, both-of}
 use Rattle.block.specs.Block.{blockSize, kindOf, usedIn, switchesOf, frameOk}
-use Rattle.entry.specs.Interface.{interfaceSize, mostInterfaces}
-use Rattle.entry.specs.Route.{routeSize}
+use Rattle.format.specs.declared.Format.{Format}
+use Rattle.interface.specs.Interface.{mostInterfaces}
 use Rattle.sheet.specs.Every.{every}
 use Rattle.sheet.specs.Rules.{interfaceKind, routeKind, switchesOk, interfaceRight, routeRight, entriesOk, blockOk}
 use Rattle.sheet.specs.Sheet.{mostBlocks, sheetSizeOk, blocks, sheetBlock, interfaceBlocksIn, interfaceBlocks, interfacesIn, blockOkAt, validSheet}
@@ -25,30 +25,30 @@ blocks-within s (suc n) =
     let one : cond (eqb (kindOf (sheetBlock s n)) interfaceKind) 1 0 ≤ 1 = cond-cases (λ (k : ℕ). k ≤ 1) (eqb (kindOf (sheetBlock s n)) interfaceKind) 1 0 (λ e. omega arith) (λ e. omega arith) in
     omega (arith, blocks-within s n)
 
-pub record Valid (s : List ℕ) : Type 0 where
+pub record Valid (F : Format) (s : List ℕ) : Type 0 where
   pub size : Wholes blockSize mostBlocks (length s)
   pub some : 1 ≤ interfaceBlocks s
   pub within : interfaceBlocks s ≤ blocks s
-  pub few : interfacesIn s ≤ mostInterfaces
-  pub all : every (blockOkAt s) (blocks s) ≡ true
-  pub each : (k : ℕ) → k < blocks s → blockOkAt s k ≡ true
+  pub few : interfacesIn F s ≤ mostInterfaces
+  pub all : every (blockOkAt F s) (blocks s) ≡ true
+  pub each : (k : ℕ) → k < blocks s → blockOkAt F s k ≡ true
 
-pub valid : (s : List ℕ) → validSheet s ≡ true → Valid s
+pub valid : (F : Format) (s : List ℕ) → validSheet F s ≡ true → Valid F s
 unfolding validSheet interfaceBlocks
-valid s e =
+valid F s e =
     let z : Bool = sheetSizeOk (length s) in
     let m : Bool = leb 1 (interfaceBlocks s) in
-    let f : Bool = leb (interfacesIn s) mostInterfaces in
-    let p = both-of (z && m && f) (every (blockOkAt s) (blocks s)) e in
+    let f : Bool = leb (interfacesIn F s) mostInterfaces in
+    let p = both-of (z && m && f) (every (blockOkAt F s) (blocks s)) e in
     let q = both-of (z && m) f (p .0) in
     let r = both-of z m (q .0) in
     record {
       size = wholes blockSize mostBlocks (length s) (r .0);
       some = leb-true 1 (interfaceBlocks s) (r .1);
       within = blocks-within s (blocks s);
-      few = leb-true (interfacesIn s) mostInterfaces (q .1);
+      few = leb-true (interfacesIn F s) mostInterfaces (q .1);
       all = p .1;
-      each = λ k h. every-one (blockOkAt s) (blocks s) k (p .1) h;
+      each = λ k h. every-one (blockOkAt F s) (blocks s) k (p .1) h;
     }
 
 -- blocks of one kind, numbered from `first` up to `stop`: each keeps its frame, only the last may be partly filled, and each
@@ -74,17 +74,17 @@ run-of s kind size right first stop within kept =
       parts k l h = both-of (frame k && switches k) (entriesOk size right (sheetBlock s k) (usedIn (sheetBlock s k))) (kept k l h)
 
 -- the interface blocks, and the route blocks, of a valid sheet
-module _ (s : List ℕ) (v : Valid s) where
-  pub interface-run : Run s interfaceKind interfaceSize interfaceRight 0 (interfaceBlocks s)
+module _ (F : Format) (s : List ℕ) (v : Valid F s) where
+  pub interface-run : Run s interfaceKind F.interface (interfaceRight F) 0 (interfaceBlocks s)
   unfolding blockOkAt
   interface-run =
-      run-of s interfaceKind interfaceSize interfaceRight 0 (interfaceBlocks s)
+      run-of s interfaceKind F.interface (interfaceRight F) 0 (interfaceBlocks s)
       (omega (arith, v .within, v .size .whole))
       (λ k l h. rw (lt-ltb k (interfaceBlocks s) h) at (v .each k (omega (arith, v .within))))
 
-  pub route-run : Run s routeKind routeSize (routeRight (interfacesIn s)) (interfaceBlocks s) (blocks s)
+  pub route-run : Run s routeKind F.route (routeRight (interfacesIn F s)) (interfaceBlocks s) (blocks s)
   unfolding blockOkAt
   route-run =
-      run-of s routeKind routeSize (routeRight (interfacesIn s)) (interfaceBlocks s) (blocks s)
+      run-of s routeKind F.route (routeRight (interfacesIn F s)) (interfaceBlocks s) (blocks s)
       (omega (arith, v .size .whole))
       (λ k l h. rw (le-ltb k (interfaceBlocks s) l) at (v .each k h))

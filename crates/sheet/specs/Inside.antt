@@ -6,8 +6,8 @@ use mathlib.Core.Path.{_≡_}
 use lib.Dec.{ltb, eqb}
 use lib.ListN.{length}
 use Rattle.block.specs.Block.{kindOf}
-use Rattle.entry.specs.Interface.{interfaceSize}
-use Rattle.entry.specs.Route.{routeSize, routeAt}
+use Rattle.format.specs.declared.Format.{Format}
+use Rattle.route_entry.specs.Route.{routeAt}
 use Rattle.sheet.specs.Rules.{interfaceKind, routeKind, interfaceRight, routeRight, blockOk}
 use Rattle.sheet.specs.Sheet.{blocks, sheetBlock, layoutOf}
 use Rattle.sheet.specs.Tables.{routeOf}
@@ -19,15 +19,15 @@ pub record Leading (s : List ℕ) (n m : ℕ) : Type 0 where
   pub next : m < n → kindOf (sheetBlock s m) ≡ interfaceKind → ⊥
 
 -- block k keeps its rules, where there are m interface blocks and so many interfaces
-unfoldable pub blockOkWith : List ℕ → ℕ → ℕ → ℕ → Bool
-blockOkWith s m interfaces k =
+unfoldable pub blockOkWith : Format → List ℕ → ℕ → ℕ → ℕ → Bool
+blockOkWith F s m interfaces k =
     cond (ltb k m)
-    (blockOk interfaceKind interfaceSize interfaceRight k (eqb (k + 1) m) (sheetBlock s k))
-    (blockOk routeKind routeSize (routeRight interfaces) k (eqb (k + 1) (blocks s)) (sheetBlock s k))
+    (blockOk interfaceKind F.interface (interfaceRight F) k (eqb (k + 1) m) (sheetBlock s k))
+    (blockOk routeKind F.route (routeRight interfaces) k (eqb (k + 1) (blocks s)) (sheetBlock s k))
 
 -- so many routes from route `first` on stand side by side, from a place on
-pub record Beside (s : List ℕ) (first at count : ℕ) : Type 0 where
-  pub there : first + count ≤ layoutOf s .routes
+pub record Beside (F : Format) (s : List ℕ) (first at count : ℕ) : Type 0 where
+  pub there : first + count ≤ layoutOf F s .routes
   pub few : first + count ≤ length s
-  pub bytes : at + routeSize * count ≤ length s
-  pub each : (j : ℕ) → j < count → routeOf s (first + j) ≡ routeAt s (at + routeSize * j)
+  pub bytes : (j : ℕ) → j < count → at + F.route * j + F.route ≤ length s
+  pub each : (j : ℕ) → j < count → routeOf F s (first + j) ≡ routeAt s (at + F.route * j)

@@ -4,8 +4,9 @@ use mathlib.Core.Bool.{Bool, _&&_, _||_}
 use mathlib.Core.List.{List}
 use lib.Dec.{eqb}
 use Rattle.block.specs.Block.{usedIn, switchesOf, placeInBlock, frameOk}
-use Rattle.entry.specs.Interface.{interfaceAt, interfaceOk}
-use Rattle.entry.specs.Route.{routeAt, routeOk}
+use Rattle.format.specs.declared.Format.{Format}
+use Rattle.interface.specs.Interface.{interfaceAt, interfaceOk}
+use Rattle.route_entry.specs.Route.{routeAt, routeOk}
 use Rattle.sheet.specs.Every.{every}
 
 -- the kind of an interface block
@@ -25,8 +26,8 @@ abbrev pub switchesOk : ℕ → ℕ → Bool
 switchesOk number switches = eqb switches 0 || (eqb number 0 && eqb switches prohibits)
 
 -- the interface that begins at a place keeps its rules
-abbrev pub interfaceRight : List ℕ → ℕ → Bool
-interfaceRight b at = interfaceOk (interfaceAt b at)
+abbrev pub interfaceRight : Format → List ℕ → ℕ → Bool
+interfaceRight F b at = interfaceOk F (interfaceAt b at)
 
 -- the route that begins at a place does, among so many interfaces
 abbrev pub routeRight : ℕ → List ℕ → ℕ → Bool

@@ -7,8 +7,8 @@ use lib.Dec.{leb, ltb, eqb}
 use lib.ListN.{length}
 use Rattle.wire.specs.Parts.{part, wholeParts}
 use Rattle.block.specs.Block.{blockSize, kindOf, usedIn, entriesEach}
-use Rattle.entry.specs.Interface.{interfaceSize, mostInterfaces}
-use Rattle.entry.specs.Route.{routeSize}
+use Rattle.format.specs.declared.Format.{Format}
+use Rattle.interface.specs.Interface.{mostInterfaces}
 use Rattle.sheet.specs.Every.{every}
 use Rattle.sheet.specs.Rules.{interfaceKind, routeKind, interfaceRight, routeRight, blockOk}
 use Rattle.sheet.specs.declared.layout.Layout.{Layout}
@@ -43,33 +43,33 @@ unfoldable pub entriesIn : List ℕ → ℕ → ℕ → ℕ → ℕ
 entriesIn s each first count = cond (eqb count 0) 0 (each * (count - 1) + usedIn (sheetBlock s (first + (count - 1))))
 
 -- how many interfaces a sheet that keeps the rules has
-unfoldable pub interfacesIn : List ℕ → ℕ
-interfacesIn s = entriesIn s (entriesEach interfaceSize) 0 (interfaceBlocks s)
+unfoldable pub interfacesIn : Format → List ℕ → ℕ
+interfacesIn F s = entriesIn s (entriesEach F.interface) 0 (interfaceBlocks s)
 
 -- and how many routes
-unfoldable pub routesIn : List ℕ → ℕ
-routesIn s = entriesIn s (entriesEach routeSize) (interfaceBlocks s) (blocks s - interfaceBlocks s)
+unfoldable pub routesIn : Format → List ℕ → ℕ
+routesIn F s = entriesIn s (entriesEach F.route) (interfaceBlocks s) (blocks s - interfaceBlocks s)
 
 -- block k keeps its rules: the interface blocks come first, and the last of a kind may be partly filled
-unfoldable pub blockOkAt : List ℕ → ℕ → Bool
-blockOkAt s k =
+unfoldable pub blockOkAt : Format → List ℕ → ℕ → Bool
+blockOkAt F s k =
     cond (ltb k (interfaceBlocks s))
-    (blockOk interfaceKind interfaceSize interfaceRight k (eqb (k + 1) (interfaceBlocks s)) (sheetBlock s k))
-    (blockOk routeKind routeSize (routeRight (interfacesIn s)) k (eqb (k + 1) (blocks s)) (sheetBlock s k))
+    (blockOk interfaceKind F.interface (interfaceRight F) k (eqb (k + 1) (interfaceBlocks s)) (sheetBlock s k))
+    (blockOk routeKind F.route (routeRight (interfacesIn F s)) k (eqb (k + 1) (blocks s)) (sheetBlock s k))
 
 -- 1 to 16 blocks, at least one of them an interface block, at most 64 interfaces, and every block keeps its rules
-unfoldable pub validSheet : List ℕ → Bool
-validSheet s =
-    sheetSizeOk (length s) && leb 1 (interfaceBlocks s) && leb (interfacesIn s) mostInterfaces && every (blockOkAt s) (blocks s)
+unfoldable pub validSheet : Format → List ℕ → Bool
+validSheet F s =
+    sheetSizeOk (length s) && leb 1 (interfaceBlocks s) && leb (interfacesIn F s) mostInterfaces && every (blockOkAt F s) (blocks s)
 
 -- what is told of a sheet that breaks a rule: nothing
 abbrev pub noLayout : Layout
 noLayout = record { valid = false; blocks = 0; interfaces = 0; routes = 0 }
 
 -- what is told of one that keeps them all: how many interface blocks, interfaces and routes it has
-unfoldable pub counted : List ℕ → Layout
-counted s = record { valid = true; blocks = interfaceBlocks s; interfaces = interfacesIn s; routes = routesIn s }
+unfoldable pub counted : Format → List ℕ → Layout
+counted F s = record { valid = true; blocks = interfaceBlocks s; interfaces = interfacesIn F s; routes = routesIn F s }
 
 -- what the check answers
-unfoldable pub layoutOf : List ℕ → Layout
-layoutOf s = cond (validSheet s) (counted s) noLayout
+unfoldable pub layoutOf : Format → List ℕ → Layout
+layoutOf F s = cond (validSheet F s) (counted F s) noLayout

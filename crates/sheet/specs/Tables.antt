@@ -4,10 +4,11 @@ use mathlib.Core.Bool.{Bool, cond}
 use mathlib.Core.List.{List, [], _∷_}
 use lib.Dec.{eqb}
 use Rattle.block.specs.Block.{blockSize, switchesOf, entriesEach, placeInBlock}
-use Rattle.entry.specs.Interface.{interfaceSize, interfaceAt}
-use Rattle.entry.specs.Route.{routeSize, routeAt}
-use Rattle.entry.specs.declared.interface.Interface.{Interface}
-use Rattle.entry.specs.declared.route.Route.{Route}
+use Rattle.format.specs.declared.Format.{Format}
+use Rattle.interface.specs.Interface.{interfaceAt}
+use Rattle.route_entry.specs.Route.{routeAt}
+use Rattle.interface.specs.declared.Interface.{Interface}
+use Rattle.route_entry.specs.declared.Route.{Route}
 use Rattle.sheet.specs.Every.{listed}
 use Rattle.sheet.specs.Rules.{prohibits}
 use Rattle.sheet.specs.Sheet.{sheetBlock, interfaceBlocks, layoutOf}
@@ -19,20 +20,20 @@ abbrev pub placeOf : ℕ → ℕ → ℕ → ℕ
 placeOf size first i = blockSize * (first + i / entriesEach size) + placeInBlock size (i % entriesEach size)
 
 -- interface i
-unfoldable pub interfaceOf : List ℕ → ℕ → Interface
-interfaceOf s i = interfaceAt s (placeOf interfaceSize 0 i)
+unfoldable pub interfaceOf : Format → List ℕ → ℕ → Interface
+interfaceOf F s i = interfaceAt s (placeOf F.interface 0 i)
 
 -- route k
-unfoldable pub routeOf : List ℕ → ℕ → Route
-routeOf s k = routeAt s (placeOf routeSize (interfaceBlocks s) k)
+unfoldable pub routeOf : Format → List ℕ → ℕ → Route
+routeOf F s k = routeAt s (placeOf F.route (interfaceBlocks s) k)
 
 -- all interfaces, in order
-unfoldable pub interfacesOf : List ℕ → List Interface
-interfacesOf s = listed (interfaceOf s) 0 (layoutOf s .interfaces)
+unfoldable pub interfacesOf : Format → List ℕ → List Interface
+interfacesOf F s = listed (interfaceOf F s) 0 (layoutOf F s .interfaces)
 
 -- all routes, in order
-unfoldable pub routesOf : List ℕ → List Route
-routesOf s = listed (routeOf s) 0 (layoutOf s .routes)
+unfoldable pub routesOf : Format → List ℕ → List Route
+routesOf F s = listed (routeOf F s) 0 (layoutOf F s .routes)
 
 -- by the switches of block 0 tracing is prohibited
 unfoldable pub prohibitedOf : List ℕ → Bool
@@ -46,5 +47,5 @@ holderFrom address i (x ∷ xs) =
     cond (eqb (x .address) address) (At i) later
 
 -- and of all
-unfoldable pub holderOf : List ℕ → ℕ → Holding
-holderOf s address = holderFrom address 0 (interfacesOf s)
+unfoldable pub holderOf : Format → List ℕ → ℕ → Holding
+holderOf F s address = holderFrom address 0 (interfacesOf F s)

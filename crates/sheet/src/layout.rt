@@ -3,24 +3,20 @@ use crate::rules::INTERFACE_KIND;
 use crate::rules::interface_block_ok;
 use crate::rules::route_block_ok;
 use crate::rules::wide;
+use format::Format;
 ghost use mathlib.Core.Path.{_≡_};
 ghost use Prim.Native.Nat.{_+_, _*_, _/_, _≤_, _<_};
 ghost use lib.ListN.{length};
 ghost use Rattle.wire.specs.Numbers.{byteAt};
-ghost use Rattle.block.specs.Block.{blockSize, entriesEach};
-ghost use Rattle.entry.specs.Interface.{interfaceSize, mostInterfaces};
+ghost use Rattle.block.specs.Block.{blockSize, entriesRoom};
+ghost use Rattle.format.specs.Sizes.{Sound, ipv4};
+ghost use Rattle.interface.specs.Interface.{mostInterfaces};
 ghost use Rattle.sheet.specs.Every.{every};
 ghost use Rattle.sheet.specs.Sheet.{mostBlocks, sheetSizeOk, blocks, sheetBlock, entriesIn, noLayout, layoutOf};
 ghost use Rattle.sheet.specs.Inside.{Leading, blockOkWith};
 
 // The most blocks of a sheet.
 const MOST_BLOCKS: usize = 16;
-
-// How many interfaces an interface block has room for.
-pub const INTERFACES_EACH: usize = block::ENTRIES_ROOM / entry::INTERFACE_SIZE;
-
-// How many routes a route block has room for.
-pub const ROUTES_EACH: usize = block::ENTRIES_ROOM / entry::ROUTE_SIZE;
 
 // What the check tells of a sheet: whether it is valid, and how many interface blocks, interfaces and routes it has.
 pub struct Layout {
@@ -65,7 +61,7 @@ fn interface_blocks(s: &[u8], n: usize) -> usize
 
 // The entries in `count` blocks from block `first` on, of which all but the last are full with `each`.
 fn entries(s: &[u8], each: usize, first: usize, count: usize) -> usize
-    requires { ⌜ (blockSize * (first + count) ≤ length (now s)) × (each ≤ entriesEach interfaceSize) × (first + count ≤ mostBlocks) ⌝ }
+    requires { ⌜ (blockSize * (first + count) ≤ length (now s)) × (each ≤ entriesRoom) × (first + count ≤ mostBlocks) ⌝ }
     ensures { λ r. ⌜ r ≡ entriesIn (now (s .entry)) each first count ⌝ }
 {
     if count == 0 {
@@ -75,17 +71,19 @@ fn entries(s: &[u8], each: usize, first: usize, count: usize) -> usize
 }
 
 // Whether block `k` keeps its rules, where there are `m` interface blocks and so many interfaces.
-fn block_ok(s: &[u8], k: usize, m: usize, interfaces: u16) -> bool
+fn block_ok(f: Format, s: &[u8], k: usize, m: usize, interfaces: u16) -> bool
+    requires { ⌜ Sound f ⌝ }
     requires { ⌜ (blockSize * k + blockSize ≤ length (now s)) × (k < mostBlocks) × (interfaces ≤ mostInterfaces) ⌝ }
-    ensures { λ r. ⌜ r ≡ blockOkWith (now (s .entry)) m interfaces k ⌝ }
+    ensures { λ r. ⌜ r ≡ blockOkWith f (now (s .entry)) m interfaces k ⌝ }
 {
     let a = block::BLOCK_SIZE * k;
     let e = a + block::BLOCK_SIZE;
     let number = k as u16;
     if k < m {
-        return interface_block_ok(&s[a..e], number, k + 1 == m);
+        return interface_block_ok(f, &s[a..e], number, k + 1 == m);
     }
     route_block_ok(
+        f,
         &s[a..e],
         number,
         k + 1 == s.len() / block::BLOCK_SIZE,
@@ -94,14 +92,15 @@ fn block_ok(s: &[u8], k: usize, m: usize, interfaces: u16) -> bool
 }
 
 // Whether every block keeps its rules. The first that does not settles it.
-fn blocks_ok(s: &[u8], m: usize, interfaces: u16) -> bool
+fn blocks_ok(f: Format, s: &[u8], m: usize, interfaces: u16) -> bool
+    requires { ⌜ Sound f ⌝ }
     requires { ⌜ (blocks (now s) ≤ mostBlocks) × (interfaces ≤ mostInterfaces) ⌝ }
-    ensures { λ r. ⌜ r ≡ every (blockOkWith (now (s .entry)) m interfaces) (blocks (now (s .entry))) ⌝ }
+    ensures { λ r. ⌜ r ≡ every (blockOkWith f (now (s .entry)) m interfaces) (blocks (now (s .entry))) ⌝ }
 {
     let n = s.len() / block::BLOCK_SIZE;
     let mut k: usize = 0;
     while k < n {
-        if !block_ok(s, k, m, interfaces) {
+        if !block_ok(f, s, k, m, interfaces) {
             return false;
         }
         k += 1;
@@ -121,10 +120,12 @@ fn refuse() -> Layout
     }
 }
 
-// Whether any bytes at all are a valid sheet, and what it holds. What is cheap to refuse comes first.
+// Whether any bytes at all are a valid sheet, and what it holds. What is cheap to refuse comes first. The sizes are named here, and handed
+// down from here: engine and walk both ask, and each size that came from them would be a number in memory.
 pub fn check(s: &[u8]) -> Layout
-    ensures { λ l. ⌜ l ≡ layoutOf (now (s .entry)) ⌝ }
+    ensures { λ l. ⌜ l ≡ layoutOf ipv4 (now (s .entry)) ⌝ }
 {
+    let f = format::IPV4;
     if !size_ok(s.len()) {
         return refuse();
     }
@@ -133,17 +134,17 @@ pub fn check(s: &[u8]) -> Layout
     if m == 0 {
         return refuse();
     }
-    let interfaces = entries(s, INTERFACES_EACH, 0, m);
-    if entry::MOST_INTERFACES < interfaces {
+    let interfaces = entries(s, block::ENTRIES_ROOM / f.interface, 0, m);
+    if interface::MOST_INTERFACES < interfaces {
         return refuse();
     }
-    if !blocks_ok(s, m, interfaces as u16) {
+    if !blocks_ok(f, s, m, interfaces as u16) {
         return refuse();
     }
     Layout {
         valid: true,
         blocks: m,
         interfaces,
-        routes: entries(s, ROUTES_EACH, m, n - m),
+        routes: entries(s, block::ENTRIES_ROOM / f.route, m, n - m),
     }
 }

@@ -7,7 +7,7 @@ pub use layout::Layout;
 pub use layout::check;
 pub use tables::Holding;
 pub use tables::holder;
-pub use tables::interface;
+pub use tables::interface_place;
 pub use tables::prohibited;
 pub use tables::route;
 pub use tables::route_place;

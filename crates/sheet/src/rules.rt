@@ -1,10 +1,11 @@
 // The rules on one block of a sheet.
+use format::Format;
 ghost use mathlib.Core.Path.{_≡_};
 ghost use Prim.Native.Nat.{_≤_, _<_};
 ghost use lib.ListN.{length};
 ghost use Rattle.block.specs.Block.{blockSize, entriesEach};
-ghost use Rattle.entry.specs.Interface.{interfaceSize, mostInterfaces};
-ghost use Rattle.entry.specs.Route.{routeSize};
+ghost use Rattle.format.specs.Sizes.{Sound};
+ghost use Rattle.interface.specs.Interface.{mostInterfaces};
 ghost use Rattle.sheet.specs.Rules.{interfaceKind, routeKind, switchesOk, interfaceRight, routeRight, entriesOk, blockOk};
 
 // The kind of an interface block.
@@ -31,13 +32,14 @@ fn switches_ok(number: u16, switches: u16) -> bool
 }
 
 // Whether the first `used` interfaces of a block keep their rules: it is left at the first that does not.
-fn interfaces_ok(b: &[u8], used: usize) -> bool
-    requires { ⌜ (length (now b) ≡ blockSize) × (used ≤ entriesEach interfaceSize) ⌝ }
-    ensures { λ r. ⌜ r ≡ entriesOk interfaceSize interfaceRight (now (b .entry)) used ⌝ }
+fn interfaces_ok(f: Format, b: &[u8], used: usize) -> bool
+    requires { ⌜ Sound f ⌝ }
+    requires { ⌜ (length (now b) ≡ blockSize) × (used ≤ entriesEach (f .interface)) ⌝ }
+    ensures { λ r. ⌜ r ≡ entriesOk (f .interface) (interfaceRight f) (now (b .entry)) used ⌝ }
 {
     let mut j: usize = 0;
     while j < used {
-        if !entry::interface_ok(b, block::ENTRIES_AT + entry::INTERFACE_SIZE * j) {
+        if !interface::interface_ok(f, b, block::ENTRIES_AT + f.interface * j) {
             return false;
         }
         j += 1;
@@ -46,19 +48,15 @@ fn interfaces_ok(b: &[u8], used: usize) -> bool
 }
 
 // Whether the first `used` routes of a block keep theirs, where there are so many interfaces.
-fn routes_ok(b: &[u8], used: usize, interfaces: u16) -> bool
-    requires { ⌜ (length (now b) ≡ blockSize) × (used ≤ entriesEach routeSize) × (interfaces ≤ mostInterfaces) ⌝ }
-    ensures { λ r. ⌜ r ≡ entriesOk routeSize (routeRight interfaces) (now (b .entry)) used ⌝ }
+fn routes_ok(f: Format, b: &[u8], used: usize, interfaces: u16) -> bool
+    requires { ⌜ Sound f ⌝ }
+    requires { ⌜ (length (now b) ≡ blockSize) × (used ≤ entriesEach (f .route)) × (interfaces ≤ mostInterfaces) ⌝ }
+    ensures { λ r. ⌜ r ≡ entriesOk (f .route) (routeRight interfaces) (now (b .entry)) used ⌝ }
 {
-    let outside = entry::outside_map(interfaces);
+    let outside = route_entry::outside_map(interfaces);
     let mut j: usize = 0;
     while j < used {
-        if !entry::route_ok(
-            b,
-            block::ENTRIES_AT + entry::ROUTE_SIZE * j,
-            interfaces,
-            outside,
-        ) {
+        if !route_entry::route_ok(b, block::ENTRIES_AT + f.route * j, interfaces, outside) {
             return false;
         }
         j += 1;
@@ -67,23 +65,25 @@ fn routes_ok(b: &[u8], used: usize, interfaces: u16) -> bool
 }
 
 // Whether a block is an interface block that keeps its rules.
-pub fn interface_block_ok(b: &[u8], number: u16, partly: bool) -> bool
+pub fn interface_block_ok(f: Format, b: &[u8], number: u16, partly: bool) -> bool
+    requires { ⌜ Sound f ⌝ }
     requires { ⌜ length (now b) ≡ blockSize ⌝ }
-    ensures { λ r. ⌜ r ≡ blockOk interfaceKind interfaceSize interfaceRight number partly (now (b .entry)) ⌝ }
+    ensures { λ r. ⌜ r ≡ blockOk interfaceKind (f .interface) (interfaceRight f) number partly (now (b .entry)) ⌝ }
 {
-    if !block::frame_ok(b, INTERFACE_KIND, entry::INTERFACE_SIZE, number, partly) {
+    if !block::frame_ok(b, INTERFACE_KIND, f.interface, number, partly) {
         return false;
     }
-    switches_ok(number, wire::be16(b, block::SWITCHES_AT)) & interfaces_ok(b, wide(b[1]))
+    switches_ok(number, wire::be16(b, block::SWITCHES_AT)) & interfaces_ok(f, b, wide(b[1]))
 }
 
 // Whether a block is a route block that keeps its rules, where there are so many interfaces.
-pub fn route_block_ok(b: &[u8], number: u16, partly: bool, interfaces: u16) -> bool
+pub fn route_block_ok(f: Format, b: &[u8], number: u16, partly: bool, interfaces: u16) -> bool
+    requires { ⌜ Sound f ⌝ }
     requires { ⌜ (length (now b) ≡ blockSize) × (interfaces ≤ mostInterfaces) ⌝ }
-    ensures { λ r. ⌜ r ≡ blockOk routeKind routeSize (routeRight interfaces) number partly (now (b .entry)) ⌝ }
+    ensures { λ r. ⌜ r ≡ blockOk routeKind (f .route) (routeRight interfaces) number partly (now (b .entry)) ⌝ }
 {
-    if !block::frame_ok(b, ROUTE_KIND, entry::ROUTE_SIZE, number, partly) {
+    if !block::frame_ok(b, ROUTE_KIND, f.route, number, partly) {
         return false;
     }
-    switches_ok(number, wire::be16(b, block::SWITCHES_AT)) & routes_ok(b, wide(b[1]), interfaces)
+    switches_ok(number, wire::be16(b, block::SWITCHES_AT)) & routes_ok(f, b, wide(b[1]), interfaces)
 }

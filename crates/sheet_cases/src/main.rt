@@ -23,7 +23,7 @@ fn prohibited(s: &[u8]) -> bool {
     l.valid && sheet::prohibited(s)
 }
 
-fn print_interface(e: entry::Interface) {
+fn print_interface(e: interface::Interface) {
     tape::text(b" ->");
     tape::then(e.address as u64);
     tape::then(e.length as u64);
@@ -32,17 +32,19 @@ fn print_interface(e: entry::Interface) {
     tape::then(e.zero as u64);
     tape::then(e.input);
     tape::then(e.output);
+    tape::then(e.mtu as u64);
+    tape::then(e.zeros as u64);
     tape::end();
 }
 
 fn interface(s: &[u8], i: usize) {
     let l = sheet::check(s);
     if i < l.interfaces {
-        print_interface(sheet::interface(s, i));
+        print_interface(interface::interface_at(s, sheet::interface_place(format::IPV4, i)));
     }
 }
 
-fn print_addresses(e: entry::Route) {
+fn print_addresses(e: route_entry::Route) {
     tape::text(b" ->");
     tape::then(e.kind as u64);
     tape::then(e.length as u64);
@@ -54,7 +56,7 @@ fn print_addresses(e: entry::Route) {
     tape::then(e.incoming as u64);
 }
 
-fn print_counts(e: entry::Route) {
+fn print_counts(e: route_entry::Route) {
     tape::then(e.protocol as u64);
     tape::then(e.multicast as u64);
     tape::then(e.zeros as u64);
@@ -68,7 +70,7 @@ fn print_counts(e: entry::Route) {
 fn route(s: &[u8], k: usize) {
     let l = sheet::check(s);
     if k < l.routes {
-        let e = sheet::route(s, l, k);
+        let e = sheet::route(format::IPV4, s, l, k);
         print_addresses(e);
         print_counts(e);
     }
@@ -77,7 +79,7 @@ fn route(s: &[u8], k: usize) {
 fn holder(s: &[u8], address: u32) {
     let l = sheet::check(s);
     tape::text(b" ->");
-    match sheet::holder(s, l.interfaces, address) {
+    match sheet::holder(format::IPV4, s, l.interfaces, address) {
         Holding::At(i) => tape::then(i as u64),
         Holding::Nowhere => tape::then(65535),
     }

@@ -13,12 +13,12 @@ use lib.Seq.{take-suc-set, take-all, take-length, length-take-le}
 use Rattle.rows.proofs.Laws.{decided}
 use Rattle.wire.specs.Parts.{splice}
 use Rattle.wire.specs.Numbers.{byteAt, be16, be32}
-use Rattle.message.specs.Format.{most}
 use Rattle.drops.specs.Arrival.{arrival}
 use Rattle.yard.specs.declared.Walked.{Walked}
 use Rattle.yard.specs.Yard.{mostRouters}
 use Rattle.yard.specs.Walk.{visit, Tells, WalkTells}
 use Rattle.text.specs.Input.{startSize, headSize, headOf, visitOf, timesOf, walkIn, walkFor}
+use Rattle.format.specs.Sizes.{ipv4, outputSize}
 
 -- one time more
 pub time-set : (times : List ℕ) (i : ℕ) → take i times ≡ timesOf i → length times ≡ 32 → i < 32
@@ -64,15 +64,15 @@ to-end s n = take-all (length s - n) (drop n s) (omega (arith, length-drop n s))
 
 -- the walk from where the first bytes say
 pub walk-from : (head yard output output′ times : List ℕ) (router interface destination ttl : ℕ) (r : Walked)
-    → times ≡ timesOf mostRouters → router ≡ be16 head 0 → interface ≡ be16 head 2 → destination ≡ be32 head 4 → ttl ≡ byteAt head 8 → length output ≡ most
-    → WalkTells yard times (visit router (arrival (take (length head - startSize) (drop startSize head)) destination interface ttl)) output r output′
-    → Tells (walkIn head yard) output r output′
+    → times ≡ timesOf mostRouters → router ≡ be16 head 0 → interface ≡ be16 head 2 → destination ≡ be32 head 4 → ttl ≡ byteAt head 8 → length output ≡ outputSize
+    → WalkTells ipv4 yard times (visit router (arrival (take (length head - startSize) (drop startSize head)) destination interface ttl)) output r output′
+    → Tells ipv4 (walkIn head yard) output r output′
 unfolding walkIn visitOf
 walk-from head yard output output′ times router interface destination ttl r et er ei ed el eo w =
     rw (to-end head startSize, et, er, ei, ed, el, eo) at w
 
 -- and the walk that the input asks for
 pub walk-asked : (input head output output′ : List ℕ) (n : ℕ) (r : Walked) → head ≡ headOf input → n ≡ min headSize (length input)
-    → Tells (walkIn head (take (length input - n) (drop n input))) output r output′ → Tells (walkFor input) output r output′
+    → Tells ipv4 (walkIn head (take (length input - n) (drop n input))) output r output′ → Tells ipv4 (walkFor input) output r output′
 unfolding walkFor
 walk-asked input head output output′ n r eh en w = rw (eh, to-end input n, en, drop-there headSize input) at w

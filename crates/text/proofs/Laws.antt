@@ -16,17 +16,18 @@ use Rattle.yard.specs.Yard.{sheetSize, mostRouters, yardSizeOk, yardOk}
 use Rattle.yard.specs.Walk.{walkYard, refusedWalk, walkRows, walkOf}
 use Rattle.text.specs.Input.{headSize, inputSize, walkIn, walkFor}
 use Rattle.text.specs.Text.{textOf}
+use Rattle.format.specs.Sizes.{ipv4}
 
 -- a yard of more than 32 sheets is refused
-too-long : (yard : List ℕ) → sheetSize * mostRouters < length yard → yardOk yard ≡ false
+too-long : (yard : List ℕ) → sheetSize * mostRouters < length yard → yardOk ipv4 yard ≡ false
 unfolding yardOk
 too-long yard h =
     ⊎-elim
     (λ e. let w = wholes sheetSize mostRouters (length yard) (both-of (yardSizeOk (length yard)) _ e .0) in absurd (omega (arith, w .whole, w .few)))
     (λ e. e)
-    (decided (yardOk yard))
+    (decided (yardOk ipv4 yard))
 
-refused : (head yard : List ℕ) → yardOk yard ≡ false → walkIn head yard ≡ refusedWalk walkYard
+refused : (head yard : List ℕ) → yardOk ipv4 yard ≡ false → walkIn head yard ≡ refusedWalk walkYard
 unfolding walkIn walkOf walkRows byFirst
 refused head yard e = rw e
 

@@ -19,6 +19,7 @@ use Rattle.message.proofs.Laws.{all-standards, none-short, standards-more, stan
 use Rattle.text.specs.Text.{lineOf, linesOf, mostLine, mostLines}
 use Rattle.text.specs.Inside.{Written}
 use Rattle.text.proofs.Written.{nothing, no-more, then}
+use Rattle.format.specs.Sizes.{ipv4, ipv4-sound}
 
 -- a block's line, or none
 pub line-told : (one : Bool) (xs : List ℕ) (at next : ℕ) (text text′ : List ℕ) → one ≡ true
@@ -36,33 +37,33 @@ blocksAt m places = map (λ at. part at standardSize m) places
 pub record SoFar (m text : List ℕ) (from : ℕ) (text′ : List ℕ) (at count next : ℕ) : Type 0 where
   pub done : List ℕ
   pub written : Written done (mostLine * count) from text text′ next
-  pub left : linesOf 1 (standardBlocks m) ≡ done ++ linesOf (suc count) (blocksAt m (standardsFrom m at))
+  pub left : linesOf 1 (standardBlocks ipv4 m) ≡ done ++ linesOf (suc count) (blocksAt m (standardsFrom ipv4 m at))
   pub inside : at ≤ length m
   pub passed : headerSize + standardSize * count ≤ at
 
 module _ (m text : List ℕ) (from : ℕ) where
   -- a message without a header has no blocks
-  pub no-lines : length m < headerSize → Written (linesOf 1 (standardBlocks m)) mostLines from text text from
+  pub no-lines : length m < headerSize → Written (linesOf 1 (standardBlocks ipv4 m)) mostLines from text text from
   unfolding standardBlocks linesOf
   no-lines h =
-      let none : standards m ≡ [] = all-standards m ∙ standards-over m headerSize _ (none-short m headerSize (omega arith)) refl in
+      let none : standards ipv4 m ≡ [] = all-standards ipv4-sound m ∙ standards-over ipv4-sound m headerSize _ (none-short ipv4-sound m headerSize (omega arith)) refl in
       rw none (nothing mostLines from text)
 
   -- before the first block none is written
   pub none-yet : headerSize ≤ length m → SoFar m text from text headerSize 0 from
   unfolding standardBlocks
   none-yet h =
-      record { done = []; written = nothing 0 from text; left = rw (all-standards m); inside = h; passed = omega arith }
+      record { done = []; written = nothing 0 from text; left = rw (all-standards ipv4-sound m); inside = h; passed = omega arith }
 
   module _
       (text′ : List ℕ) (at count next : ℕ) (so-far : SoFar m text from text′ at count next) (short : length m ≤ most)
-      (block : BlockHead) (b : block ≡ blockAt m at)
+      (block : BlockHead) (b : block ≡ blockAt ipv4 m at)
     where
       -- behind the last block all are
-      pub all-lines : block .size ≡ 0 → Written (linesOf 1 (standardBlocks m)) mostLines from text text′ next
+      pub all-lines : block .size ≡ 0 → Written (linesOf 1 (standardBlocks ipv4 m)) mostLines from text text′ next
       unfolding linesOf
       all-lines z =
-          let whole : linesOf 1 (standardBlocks m) ≡ so-far .done = so-far .left ∙ rw (standards-over m at block b z, append-nil) in
+          let whole : linesOf 1 (standardBlocks ipv4 m) ≡ so-far .done = so-far .left ∙ rw (standards-over ipv4-sound m at block b z, append-nil) in
           rw whole (no-more (omega (arith, so-far .inside, so-far .passed)) (so-far .written))
 
       module _ (some : block .size ≡ 0 → ⊥) (one : Bool) (o : one ≡ eqb (block .kind) standard) where
@@ -70,14 +71,14 @@ module _ (m text : List ℕ) (from : ℕ) where
         bytes = take (at + block .size - at) (drop at m)
 
         size-is : one ≡ true → block .size ≡ standardSize
-        size-is e = size-standard m at block b some (sym o ∙ e)
+        size-is e = size-standard ipv4-sound m at block b some (sym o ∙ e)
 
         -- a block of type 4 is whole, and there is room for its line
         pub line-fits : from + mostLines ≤ length text → length text′ ≡ length text → one ≡ true
             → (standardSize ≤ length bytes) × (next + mostLine ≤ length text′)
         line-fits room same e =
             let s = size-is e in
-            let i = size-inside m at block b some (so-far .inside) in
+            let i = size-inside ipv4-sound m at block b some (so-far .inside) in
             let w = so-far .written in (
               omega (arith, length-take-le (at + block .size - at) (drop at m) (omega (arith, length-drop at m))),
               omega (arith, w .behind, w .few, so-far .passed),
@@ -91,13 +92,13 @@ module _ (m text : List ℕ) (from : ℕ) where
           with-line e w c =
               let s = size-is e in
               let whole : at + block .size - at ≡ standardSize = omega arith in
-              let i = size-inside m at block b some (so-far .inside) in
+              let i = size-inside ipv4-sound m at block b some (so-far .inside) in
               let few : mostLine * count + mostLine ≤ mostLines = omega (arith, so-far .passed) in
               rw c
               record {
                 done = so-far .done ++ lineOf (suc count) (part at standardSize m);
                 written = no-more (omega arith) (then (omega arith) (so-far .written) (rw whole at w));
-                left = so-far .left ∙ rw (standards-more m at block b some (sym o ∙ e)) (simp append-assoc);
+                left = so-far .left ∙ rw (standards-more ipv4-sound m at block b some (sym o ∙ e)) (simp append-assoc);
                 inside = i;
                 passed = omega (arith, so-far .passed);
               }
@@ -110,8 +111,8 @@ module _ (m text : List ℕ) (from : ℕ) where
               record {
                 done = so-far .done;
                 written = no-more (omega arith) (rw append-nil at (then (omega arith) (so-far .written) w));
-                left = so-far .left ∙ rw (standards-same m at block b some (sym o ∙ e));
-                inside = size-inside m at block b some (so-far .inside);
+                left = so-far .left ∙ rw (standards-same ipv4-sound m at block b some (sym o ∙ e));
+                inside = size-inside ipv4-sound m at block b some (so-far .inside);
                 passed = omega (arith, so-far .passed);
               }
 

@@ -16,8 +16,9 @@ use Rattle.text.specs.Input.{walkFor}
 use Rattle.text.specs.Text.{linesOf, firstLine, walkText, textOf, mostFirst, mostLines, textSize}
 use Rattle.text.specs.Inside.{Written}
 use Rattle.text.proofs.Written.{then}
+use Rattle.format.specs.Sizes.{ipv4, outputSize}
 
-module _ (w : Walk) (output output′ : List ℕ) (r : Walked) (told : Tells w output r output′) where
+module _ (w : Walk) (output output′ : List ℕ) (r : Walked) (told : Tells ipv4 w output r output′) where
   -- the output begins with it
   length-is : r .length ≡ length (w .last)
   length-is = ap (λ (x : Walked). x .length) (told .answer)
@@ -34,14 +35,14 @@ module _ (w : Walk) (output output′ : List ℕ) (r : Walked) (told : Tells w o
   pub last-count : r .length ≡ length (take (r .length) output′)
   last-count = sym (length-take-le (r .length) output′ last-inside)
 
-  pub last-short : length output′ ≡ most → length (take (r .length) output′) ≤ most
+  pub last-short : length output′ ≡ outputSize → length (take (r .length) output′) ≤ most
   last-short e = omega (arith, last-count, last-inside)
 
 -- both written, the text is
 pub text-told : (input text text₁ text₂ output output′ : List ℕ) (w : Walked) (next r : ℕ) → textSize ≤ length text
-    → Tells (walkFor input) output w output′
+    → Tells ipv4 (walkFor input) output w output′
     → Written (firstLine w) mostFirst 0 text text₁ next
-    → Written (linesOf 1 (standardBlocks (take (w .length) output′))) mostLines next text₁ text₂ r
+    → Written (linesOf 1 (standardBlocks ipv4 (take (w .length) output′))) mostLines next text₁ text₂ r
     → ((r ≡ length (textOf input)) × (r ≤ textSize)) × (text₂ ≡ splice text 0 (textOf input))
 unfolding textOf walkText
 text-told input text text₁ text₂ output output′ w next r room told first second =

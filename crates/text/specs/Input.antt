@@ -4,10 +4,11 @@ use mathlib.Core.List.{List, [], _∷_, _++_}
 use lib.ListN.{take, drop, replicate}
 use Rattle.wire.specs.Numbers.{byteAt, be16, be32}
 use Rattle.wire.specs.Parts.{splice}
-use Rattle.message.specs.Format.{headerSize, most}
+use Rattle.message.specs.Format.{headerSize}
 use Rattle.drops.specs.Arrival.{arrival}
 use Rattle.yard.specs.Yard.{sheetSize, mostRouters}
 use Rattle.yard.specs.Walk.{Visit, visit, Walk, walkOf}
+use Rattle.format.specs.Sizes.{ipv4, outputSize}
 
 -- the bytes that say where the Query arrives
 abbrev pub startSize : ℕ
@@ -34,9 +35,9 @@ timesOf (suc i) = timesOf i ++ (65536 * i ∷ [])
 abbrev pub inputSize : ℕ
 inputSize = headSize + sheetSize * mostRouters + 1
 
--- the walk through a yard from where the first bytes say, with as much room as a message may take
+-- the walk through a yard from where the first bytes say, with as many bytes lent as a message may take
 unfoldable pub walkIn : List ℕ → List ℕ → Walk
-walkIn head yard = walkOf yard (timesOf mostRouters) (visitOf head) most
+walkIn head yard = walkOf ipv4 yard (timesOf mostRouters) (visitOf head) outputSize
 
 -- the walk that an input asks for: all bytes behind the first 36 are the yard
 unfoldable pub walkFor : List ℕ → Walk

@@ -12,6 +12,7 @@ use Rattle.yard.specs.declared.Walked.{Walked}
 use Rattle.yard.specs.Walk.{Walk, walkedOf}
 use Rattle.text.specs.Ascii.{ascii}
 use Rattle.text.specs.Input.{walkFor}
+use Rattle.format.specs.Sizes.{ipv4}
 
 -- the character 0
 abbrev pub zeroDigit : ℕ
@@ -68,7 +69,7 @@ firstLine w =
 
 -- the text of a walk
 unfoldable pub walkText : Walk → List ℕ
-walkText w = firstLine (walkedOf w) ++ linesOf 1 (standardBlocks (w .last))
+walkText w = firstLine (walkedOf ipv4 w) ++ linesOf 1 (standardBlocks ipv4 (w .last))
 
 -- what is printed for an input
 unfoldable pub textOf : List ℕ → List ℕ

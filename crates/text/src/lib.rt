@@ -13,12 +13,13 @@ ghost use Rattle.message.specs.Blocks.{standardBlocks};
 ghost use Rattle.text.specs.Input.{inputSize, headSize, headOf, timesOf, walkIn, walkFor};
 ghost use Rattle.text.specs.Text.{zeroDigit, decimal, number, octet, dotted, addresses, codeText, lineOf, linesOf, endText, firstLine, textOf, mostFirst, mostLine, mostLines, textSize};
 ghost use Rattle.text.specs.Inside.{Written};
+ghost use Rattle.format.specs.Sizes.{ipv4, outputSize};
 
 // The bytes that say where the Query arrives: router 2, interface 2, destination 4, TTL 1, and seven that are ignored.
 const START_SIZE: usize = 16;
 
 // The bytes before the yard: those, and the Query.
-const HEAD_SIZE: usize = START_SIZE + message::HEADER_SIZE;
+const HEAD_SIZE: usize = START_SIZE + format::HEADER_SIZE;
 
 // No more is to be read: one byte more than the longest yard, so that a longer one is seen.
 const INPUT_SIZE: usize = HEAD_SIZE + yard::MOST_ROUTERS * yard::SHEET_SIZE + 1;
@@ -79,8 +80,8 @@ fn times_of() -> [u32; yard::MOST_ROUTERS]
 
 // Walks through a yard from where the first bytes say.
 fn walk_from(head: &[u8], yard: &[u8], output: &mut [u8]) -> Walked
-    requires { ⌜ (length (now head) ≡ headSize) × (length (now output) ≡ most) ⌝ }
-    ensures { λ r. ⌜ Tells (walkIn (now (head .entry)) (now (yard .entry))) (now (output .entry)) r (now (output .exit)) ⌝ }
+    requires { ⌜ (length (now head) ≡ headSize) × (length (now output) ≡ outputSize) ⌝ }
+    ensures { λ r. ⌜ Tells ipv4 (walkIn (now (head .entry)) (now (yard .entry))) (now (output .entry)) r (now (output .exit)) ⌝ }
 {
     let times = times_of();
     let router = wire::be16(head, 0) as u32;
@@ -101,8 +102,8 @@ fn walk_from(head: &[u8], yard: &[u8], output: &mut [u8]) -> Walked
 
 // Walks as the input asks.
 fn walk(input: &[u8], output: &mut [u8]) -> Walked
-    requires { ⌜ length (now output) ≡ most ⌝ }
-    ensures { λ r. ⌜ Tells (walkFor (now (input .entry))) (now (output .entry)) r (now (output .exit)) ⌝ }
+    requires { ⌜ length (now output) ≡ outputSize ⌝ }
+    ensures { λ r. ⌜ Tells ipv4 (walkFor (now (input .entry))) (now (output .entry)) r (now (output .exit)) ⌝ }
 {
     let head = head_of(input);
     let n = least(HEAD_SIZE, input.len());
@@ -185,7 +186,7 @@ fn code(w: &[u8], block: &[u8], text: &mut [u8], at: usize) -> usize
     ensures { λ r. ⌜ Written (now (w .entry) ++ codeText (now (block .entry))) (length (now (w .entry)) + 4) at (now (text .entry)) (now (text .exit)) r ⌝ }
 {
     let next = word(w, text, at);
-    octet(block[message::CODE_OFFSET], b"\n", text, next)
+    octet(block[format::CODE_OFFSET], b"\n", text, next)
 }
 
 // A block's outgoing, incoming and upstream address.
@@ -229,16 +230,16 @@ fn either(first: bool, a: u32, b: u32) -> u32
 // A line for each type 4 block of a message, from each block to the next by its length.
 fn lines(m: &[u8], text: &mut [u8], from: usize) -> usize
     requires { ⌜ (length (now m) ≤ most) × (from + mostLines ≤ length (now text)) ⌝ }
-    ensures { λ r. ⌜ Written (linesOf 1 (standardBlocks (now (m .entry)))) mostLines from (now (text .entry)) (now (text .exit)) r ⌝ }
+    ensures { λ r. ⌜ Written (linesOf 1 (standardBlocks ipv4 (now (m .entry)))) mostLines from (now (text .entry)) (now (text .exit)) r ⌝ }
 {
-    if m.len() < message::HEADER_SIZE {
+    if m.len() < format::HEADER_SIZE {
         return from;
     }
-    let mut at = message::HEADER_SIZE;
+    let mut at = format::HEADER_SIZE;
     let mut count: u32 = 0;
     let mut next = from;
     loop {
-        let block = message::block_at(m, at);
+        let block = message::block_at(format::IPV4, m, at);
         if block.size == 0 {
             return next;
         }
@@ -278,7 +279,7 @@ pub fn text_of(input: &[u8], text: &mut [u8]) -> usize
     ensures { λ r. ⌜ (r ≡ length (textOf (now (input .entry)))) × (r ≤ textSize) ⌝ }
     ensures { λ r. ⌜ now (text .exit) ≡ splice (now (text .entry)) 0 (textOf (now (input .entry))) ⌝ }
 {
-    let mut output = [0u8; message::MOST];
+    let mut output = [0u8; format::OUTPUT_SIZE];
     let w = walk(input, &mut output);
     let n = w.length as usize;
     let next = first_line(w, text, 0);

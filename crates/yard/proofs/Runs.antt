@@ -12,27 +12,31 @@ use Rattle.engine.specs.Answer.{sentOn}
 use Rattle.yard.specs.Walk.{Visit, sentAt, endOf, nextOf, walkFrom}
 use Rattle.yard.specs.Faithful.{Walks, run-over, run-on, RunOf}
 use Rattle.yard.proofs.Turns.{goes-on, falls, from-ends, from-on}
+use Rattle.format.specs.declared.Format.{Format}
+use Rattle.format.specs.Sizes.{Sound}
+use Rattle.response.specs.Inside.{Writes}
 
-module _ (yard times : List ℕ) where
-  -- by the hops not yet used, which fall where the walk goes on
-  runs : (n : ℕ) (v : Visit) → hopsLeft (v .arrival .message) < n → RunOf yard times v (walkFrom yard times v)
-  runs zero v h = absurd (omega arith)
-  runs (suc n) v h =
-      ⊎-elim
-      (λ t.
-      let on = eqb-true _ _ t in
-      rw (from-on yard times v on)
-      (run-on on (runs n (nextOf yard (sentAt yard times v)) (omega (arith, falls yard times v (goes-on yard times v on))))))
-      (λ t. let off = eqb-false _ _ t in rw (from-ends yard times v off) (run-over off))
-      (decided (eqb (endOf yard (sentAt yard times v)) sentOn))
+module _ {F : Format} (sound : Sound F) (writes : Writes F) where
+  module _ (yard times : List ℕ) where
+    -- by the hops not yet used, which fall where the walk goes on
+    runs : (n : ℕ) (v : Visit) → hopsLeft F (v .arrival .message) < n → RunOf F yard times v (walkFrom F yard times v)
+    runs zero v h = absurd (omega arith)
+    runs (suc n) v h =
+        ⊎-elim
+        (λ t.
+        let on = eqb-true _ _ t in
+        rw (from-on sound writes yard times v on)
+        (run-on on (runs n (nextOf F yard (sentAt F yard times v)) (omega (arith, falls sound writes yard times v (goes-on sound writes yard times v on))))))
+        (λ t. let off = eqb-false _ _ t in rw (from-ends sound writes yard times v off) (run-over off))
+        (decided (eqb (endOf F yard (sentAt F yard times v)) sentOn))
 
-  pub walk-runs : (v : Visit) → RunOf yard times v (walkFrom yard times v)
-  walk-runs v = runs (suc (hopsLeft (v .arrival .message))) v (omega arith)
+    pub walk-runs : (v : Visit) → RunOf F yard times v (walkFrom F yard times v)
+    walk-runs v = runs (suc (hopsLeft F (v .arrival .message))) v (omega arith)
 
-  -- two runs from one visit are equal
-  pub one-run : {v : Visit} {vs ws : List Visit} {end end′ : ℕ} {last last′ : List ℕ} → Walks yard times v vs end last → Walks yard times v ws end′ last′
-      → (vs ≡ ws) × (end ≡ end′) × (last ≡ last′)
-  one-run (run-over off) (run-over off′) = (refl, refl, refl)
-  one-run (run-over off) (run-on on r) = absurd (off on)
-  one-run (run-on on r) (run-over off) = absurd (off on)
-  one-run {v} (run-on on r) (run-on on′ r′) = let same = one-run r r′ in (ap (λ (l : List Visit). v ∷ l) (same .0), same .1, same .2)
+    -- two runs from one visit are equal
+    pub one-run : {v : Visit} {vs ws : List Visit} {end end′ : ℕ} {last last′ : List ℕ} → Walks F yard times v vs end last → Walks F yard times v ws end′ last′
+        → (vs ≡ ws) × (end ≡ end′) × (last ≡ last′)
+    one-run (run-over off) (run-over off′) = (refl, refl, refl)
+    one-run (run-over off) (run-on on r) = absurd (off on)
+    one-run (run-on on r) (run-over off) = absurd (off on)
+    one-run {v} (run-on on r) (run-on on′ r′) = let same = one-run r r′ in (ap (λ (l : List Visit). v ∷ l) (same .0), same .1, same .2)

@@ -15,24 +15,25 @@ use Rattle.yard.specs.declared.Hop.{Hop}
 use Rattle.yard.specs.declared.Walked.{Walked}
 use Rattle.yard.specs.Yard.{sheetSize, mostRouters, routersIn, sheetAt, yardOk}
 use Rattle.yard.specs.Walk.{visit, endOf, nextOf}
+use Rattle.format.specs.declared.Format.{Format}
 
 -- how many interfaces each of n routers has
-pub record Counted (yard counts : List ℕ) (n : ℕ) : Type 0 where
+pub record Counted (F : Format) (yard counts : List ℕ) (n : ℕ) : Type 0 where
   pub long : n ≤ length counts
-  pub each : (i : ℕ) → i < n → getD counts i 0 ≡ layoutOf (sheetAt yard i) .interfaces
+  pub each : (i : ℕ) → i < n → getD counts i 0 ≡ layoutOf F (sheetAt yard i) .interfaces
 
 -- the check of a yard: whether it is right, and then the interfaces of its routers
-pub record YardChecked (yard : List ℕ) (ok : Bool) (counts : List ℕ) : Type 0 where
-  pub is : ok ≡ yardOk yard
-  pub counted : ok ≡ true → Counted yard counts (routersIn yard)
+pub record YardChecked (F : Format) (yard : List ℕ) (ok : Bool) (counts : List ℕ) : Type 0 where
+  pub is : ok ≡ yardOk F yard
+  pub counted : ok ≡ true → Counted F yard counts (routersIn yard)
 
 -- a router of the yard that has its sheet and its time, and the interfaces of all
-pub record CanEnter (yard counts times : List ℕ) (router : ℕ) : Type 0 where
+pub record CanEnter (F : Format) (yard counts times : List ℕ) (router : ℕ) : Type 0 where
   pub whole : sheetSize * routersIn yard ≤ length yard
   pub few : routersIn yard ≤ mostRouters
   pub there : router < routersIn yard
   pub timed : routersIn yard ≤ length times
-  pub counted : Counted yard counts (routersIn yard)
+  pub counted : Counted F yard counts (routersIn yard)
 
 -- a call of the engine: its answer, and the length and the destination of what it sent
 pub record Called (sent : Sent) (old : List ℕ) (r : Call) (new : List ℕ) : Type 0 where
@@ -42,17 +43,17 @@ pub record Called (sent : Sent) (old : List ℕ) (r : Call) (new : List ℕ) : T
   pub sends : new ≡ splice old 0 (sent .message)
 
 -- what becomes of what was sent: the end, or 100 and the router and interface that are entered next
-pub record Hopped (yard : List ℕ) (sent : Sent) (old : List ℕ) (r : Hop) (new : List ℕ) : Type 0 where
-  pub end : r .end ≡ endOf yard sent
+pub record Hopped (F : Format) (yard : List ℕ) (sent : Sent) (old : List ℕ) (r : Hop) (new : List ℕ) : Type 0 where
+  pub end : r .end ≡ endOf F yard sent
   pub long : r .length ≡ length (sent .message)
   pub sends : new ≡ splice old 0 (sent .message)
-  pub next : r .end ≡ sentOn → visit (r .router) (arrival (sent .message) (r .to) (r .interface) nearTtl) ≡ nextOf yard sent
+  pub next : r .end ≡ sentOn → visit (r .router) (arrival (sent .message) (r .to) (r .interface) nearTtl) ≡ nextOf F yard sent
   pub there : r .end ≡ sentOn → r .router < routersIn yard
 
 -- the end of a walk at the router that was entered last
-pub record Ended (end : ℕ) (sent old : List ℕ) (r : Walked) (new : List ℕ) : Type 0 where
+pub record Ended (F : Format) (end : ℕ) (sent old : List ℕ) (r : Walked) (new : List ℕ) : Type 0 where
   pub ends : r .end ≡ end
   pub steps : r .steps ≡ 1
-  pub blocks : r .blocks ≡ standardCount sent
+  pub blocks : r .blocks ≡ standardCount F sent
   pub long : r .length ≡ length sent
   pub sends : new ≡ splice old 0 sent

@@ -11,6 +11,7 @@ use Rattle.sheet.specs.declared.tables.Holding.{Holding}
 use Rattle.sheet.specs.declared.tables.Holding.the-variants.{At, Nowhere}
 use Rattle.yard.specs.declared.Holder.{Holder}
 use Rattle.yard.specs.declared.Holder.the-variants.{Held, Nobody}
+use Rattle.format.specs.declared.Format.{Format}
 
 -- the bytes of a router's sheet in a yard
 abbrev pub sheetSize : ℕ
@@ -29,16 +30,16 @@ unfoldable pub sheetAt : List ℕ → ℕ → List ℕ
 sheetAt yard i = part (sheetSize * i) sheetSize yard
 
 -- whether it is valid
-abbrev pub validAt : List ℕ → ℕ → Bool
-validAt yard i = layoutOf (sheetAt yard i) .valid
+abbrev pub validAt : Format → List ℕ → ℕ → Bool
+validAt F yard i = layoutOf F (sheetAt yard i) .valid
 
 -- 1 to 32 whole sheets
 abbrev pub yardSizeOk : ℕ → Bool
 yardSizeOk = wholeParts sheetSize mostRouters
 
 -- and each of them valid
-unfoldable pub yardOk : List ℕ → Bool
-yardOk yard = yardSizeOk (length yard) && every (validAt yard) (routersIn yard)
+unfoldable pub yardOk : Format → List ℕ → Bool
+yardOk F yard = yardSizeOk (length yard) && every (validAt F yard) (routersIn yard)
 
 -- router i holds an address at the interface that was found, or else whoever of those after it does
 abbrev pub heldBy : ℕ → Holding → Holder → Holder
@@ -46,12 +47,12 @@ heldBy i (At k) later = Held i k
 heldBy i Nowhere later = later
 
 -- the lowest of n routers, from router i on, that holds an address, and its lowest interface
-unfoldable pub lowestFrom : List ℕ → ℕ → ℕ → ℕ → Holder
-lowestFrom yard address i zero = Nobody
-lowestFrom yard address i (suc n) =
-    let later = lowestFrom yard address (i + 1) n in
-    heldBy i (holderOf (sheetAt yard i) address) later
+unfoldable pub lowestFrom : Format → List ℕ → ℕ → ℕ → ℕ → Holder
+lowestFrom F yard address i zero = Nobody
+lowestFrom F yard address i (suc n) =
+    let later = lowestFrom F yard address (i + 1) n in
+    heldBy i (holderOf F (sheetAt yard i) address) later
 
 -- the lowest router and interface holding an address
-unfoldable pub holderIn : List ℕ → ℕ → Holder
-holderIn yard address = lowestFrom yard address 0 (routersIn yard)
+unfoldable pub holderIn : Format → List ℕ → ℕ → Holder
+holderIn F yard address = lowestFrom F yard address 0 (routersIn yard)

@@ -7,7 +7,8 @@ ghost use lib.Dec.{eqb};
 ghost use lib.ListN.{length};
 ghost use Rattle.wire.specs.Numbers.{byteAt};
 ghost use Rattle.sheet.specs.Every.{every};
-ghost use Rattle.message.specs.Format.{most, request};
+ghost use Rattle.format.specs.Sizes.{ipv4, outputSize};
+ghost use Rattle.message.specs.Format.{request};
 ghost use Rattle.message.specs.Blocks.{standardCount};
 ghost use Rattle.drops.specs.Arrival.{arrival};
 ghost use Rattle.yard.specs.Yard.{sheetSize, mostRouters, routersIn, validAt, yardSizeOk, holderIn};
@@ -24,7 +25,7 @@ const TO_GROUP: u32 = 102;
 
 const NOBODY_THERE: u32 = 103;
 
-// The refusals besides room: the yard, the times, the start router, a message of type 2.
+// The refusals besides too few bytes lent: the yard, the times, the start router, a message of type 2.
 const WALK_YARD: u32 = 21;
 
 const WALK_TIMES: u32 = 22;
@@ -72,7 +73,7 @@ fn size_ok(size: usize) -> bool
 // Every sheet of a yard of n is checked, up to the first that is wrong, and its interfaces are counted.
 fn sheets_ok(yard: &[u8], n: usize, counts: &mut [usize]) -> bool
     requires { ⌜ (n ≤ mostRouters) × (sheetSize * n ≤ length (now yard)) × (n ≤ length (now counts)) ⌝ }
-    ensures { λ r. ⌜ (r ≡ every (validAt (now (yard .entry))) n) × (r ≡ true → Counted (now (yard .entry)) (now (counts .exit)) n) ⌝ }
+    ensures { λ r. ⌜ (r ≡ every (validAt ipv4 (now (yard .entry))) n) × (r ≡ true → Counted ipv4 (now (yard .entry)) (now (counts .exit)) n) ⌝ }
 {
     let mut i: usize = 0;
     while i < n {
@@ -90,7 +91,7 @@ fn sheets_ok(yard: &[u8], n: usize, counts: &mut [usize]) -> bool
 
 fn yard_ok(yard: &[u8], counts: &mut [usize]) -> bool
     requires { ⌜ mostRouters ≤ length (now counts) ⌝ }
-    ensures { λ r. ⌜ YardChecked (now (yard .entry)) r (now (counts .exit)) ⌝ }
+    ensures { λ r. ⌜ YardChecked ipv4 (now (yard .entry)) r (now (counts .exit)) ⌝ }
 {
     if !size_ok(yard.len()) {
         return false;
@@ -101,14 +102,14 @@ fn yard_ok(yard: &[u8], counts: &mut [usize]) -> bool
 // The lowest router of n, and its lowest interface, that hold an address.
 fn holder_in(yard: &[u8], counts: &[usize], n: usize, address: u32) -> Holder
     requires { ⌜ (n ≡ routersIn (now yard)) × (n ≤ mostRouters) × (sheetSize * n ≤ length (now yard)) ⌝ }
-    requires { ⌜ Counted (now yard) (now counts) n ⌝ }
-    ensures { λ r. ⌜ r ≡ holderIn (now (yard .entry)) address ⌝ }
+    requires { ⌜ Counted ipv4 (now yard) (now counts) n ⌝ }
+    ensures { λ r. ⌜ r ≡ holderIn ipv4 (now (yard .entry)) address ⌝ }
 {
     let mut i: usize = 0;
     while i < n {
         let a = SHEET_SIZE * i;
         let e = a + SHEET_SIZE;
-        let found = sheet::holder(&yard[a..e], counts[i], address);
+        let found = sheet::holder(format::IPV4, &yard[a..e], counts[i], address);
         if let Holding::At(k) = found {
             return Holder::Held(i, k);
         }
@@ -117,7 +118,7 @@ fn holder_in(yard: &[u8], counts: &[usize], n: usize, address: u32) -> Holder
     Holder::Nobody
 }
 
-// One call of the engine, with room enough and an empty recent list.
+// One call of the engine, with enough lent and an empty recent list.
 fn ask(
     sheet: &[u8],
     time: u32,
@@ -127,8 +128,8 @@ fn ask(
     ttl: u32,
     sent: &mut [u8],
 ) -> Call
-    requires { ⌜ length (now sent) ≡ most ⌝ }
-    ensures { λ r. ⌜ Called (sentFor (now (sheet .entry)) time (arrival (now (message .entry)) destination receiving ttl)) (now (sent .entry)) r (now (sent .exit)) ⌝ }
+    requires { ⌜ length (now sent) ≡ outputSize ⌝ }
+    ensures { λ r. ⌜ Called (sentFor ipv4 (now (sheet .entry)) time (arrival (now (message .entry)) destination receiving ttl)) (now (sent .entry)) r (now (sent .exit)) ⌝ }
 {
     let mut recent = [0u8; recent::LIST_SIZE];
     let mut note = [0u8; message::NOTE_SIZE];
@@ -175,10 +176,10 @@ fn enter(
     ttl: u32,
     sent: &mut [u8],
 ) -> Hop
-    requires { ⌜ CanEnter (now yard) (now counts) (now times) router ⌝ }
-    requires { ⌜ length (now sent) ≡ most ⌝ }
-    ensures { λ r. ⌜ Hopped (now (yard .entry))
-        (sentAt (now (yard .entry)) (now (times .entry)) (visit router (arrival (now (message .entry)) destination receiving ttl)))
+    requires { ⌜ CanEnter ipv4 (now yard) (now counts) (now times) router ⌝ }
+    requires { ⌜ length (now sent) ≡ outputSize ⌝ }
+    ensures { λ r. ⌜ Hopped ipv4 (now (yard .entry))
+        (sentAt ipv4 (now (yard .entry)) (now (times .entry)) (visit router (arrival (now (message .entry)) destination receiving ttl)))
         (now (sent .entry)) r (now (sent .exit)) ⌝ }
 {
     let a = SHEET_SIZE * router;
@@ -214,20 +215,20 @@ fn enter(
 
 // The type 4 blocks of a message that was sent, or of none.
 fn count(sent: &[u8]) -> u32
-    requires { ⌜ length (now sent) ≤ most ⌝ }
-    ensures { λ r. ⌜ r ≡ standardCount (now (sent .entry)) ⌝ }
+    requires { ⌜ length (now sent) ≤ outputSize ⌝ }
+    ensures { λ r. ⌜ r ≡ standardCount ipv4 (now (sent .entry)) ⌝ }
 {
-    if sent.len() < message::HEADER_SIZE {
+    if sent.len() < format::HEADER_SIZE {
         return 0;
     }
-    let blocks = message::blocks_of(sent);
+    let blocks = message::blocks_of(format::IPV4, sent);
     blocks.count as u32
 }
 
 // The walk ends: the last message sent goes to the output.
 fn finish(end: u32, sent: &[u8], output: &mut [u8]) -> Walked
-    requires { ⌜ (length (now sent) ≤ most) × (most ≤ length (now output)) ⌝ }
-    ensures { λ r. ⌜ Ended end (now (sent .entry)) (now (output .entry)) r (now (output .exit)) ⌝ }
+    requires { ⌜ (length (now sent) ≤ outputSize) × (outputSize ≤ length (now output)) ⌝ }
+    ensures { λ r. ⌜ Ended ipv4 end (now (sent .entry)) (now (output .entry)) r (now (output .exit)) ⌝ }
 {
     wire::copy_to(output, 0, sent);
     Walked {
@@ -250,13 +251,13 @@ fn go(
     ttl: u32,
     output: &mut [u8],
 ) -> Walked
-    requires { ⌜ CanEnter (now yard) (now counts) (now times) router ⌝ }
-    requires { ⌜ most ≤ length (now output) ⌝ }
-    ensures { λ r. ⌜ Tells
-        (walkFrom (now (yard .entry)) (now (times .entry)) (visit router (arrival (now (message .entry)) destination receiving ttl)))
+    requires { ⌜ CanEnter ipv4 (now yard) (now counts) (now times) router ⌝ }
+    requires { ⌜ outputSize ≤ length (now output) ⌝ }
+    ensures { λ r. ⌜ Tells ipv4
+        (walkFrom ipv4 (now (yard .entry)) (now (times .entry)) (visit router (arrival (now (message .entry)) destination receiving ttl)))
         (now (output .entry)) r (now (output .exit)) ⌝ }
 {
-    let mut sent = [0u8; message::MOST];
+    let mut sent = [0u8; format::OUTPUT_SIZE];
     let h = enter(
         yard,
         counts,
@@ -304,7 +305,7 @@ fn is_request(message: &[u8]) -> bool
 
 // Nobody is entered, and nothing is sent.
 fn refuse(number: u32) -> Walked
-    ensures { λ r. ⌜ r ≡ walkedOf (refusedWalk number) ⌝ }
+    ensures { λ r. ⌜ r ≡ walkedOf ipv4 (refusedWalk number) ⌝ }
 {
     Walked {
         end: number,
@@ -326,12 +327,12 @@ pub fn walk(
     ttl: u32,
     output: &mut [u8],
 ) -> Walked
-    ensures { λ r. ⌜ WalkTells (now (yard .entry)) (now (times .entry)) (visit start (arrival (now (message .entry)) destination receiving ttl))
+    ensures { λ r. ⌜ WalkTells ipv4 (now (yard .entry)) (now (times .entry)) (visit start (arrival (now (message .entry)) destination receiving ttl))
         (now (output .entry)) r (now (output .exit)) ⌝ }
 {
     let routers = yard.len() / SHEET_SIZE;
     let router = start as usize;
-    if output.len() < message::MOST {
+    if output.len() < format::OUTPUT_SIZE {
         return refuse(drops::DROP_ROOM);
     }
     let mut counts = [0usize; MOST_ROUTERS];

@@ -4,8 +4,11 @@ use crate::tables::{address, group, plan, spoil, spoil_entry};
 use fast::engine::Arrival;
 use model::build::{augmented, ip, standard, Header, SheetPlan};
 use model::bytes::ALL_ONES;
+use model::engine::IP_AND_UDP;
+use model::message::{MOST, STANDARD};
 use model::recent::{Entry, Recent};
 use model::rng::Rng;
+use model::sheet::LEAST_MTU;
 
 /// All that a step is handed.
 #[derive(Clone, Debug)]
@@ -119,13 +122,24 @@ impl Router {
         }
     }
 
+    /// A length that meets the room of one of its links, passes it or leaves some; or one at the ends of what messages may have.
+    fn length_at_an_end(&self, rng: &mut Rng) -> usize {
+        let mtu = usize::from(rng.pick(&self.plan.interfaces).mtu.max(LEAST_MTU)); // a wrong sheet may have less
+        let room = MOST.min(mtu - IP_AND_UDP);
+        match rng.below(5) {
+            0 => rng.pick(&[1416, 1420, 1424, 1468, 1472, 1476]),
+            1 | 2 => room - rng.below(120) as usize,
+            _ => (room - STANDARD) / 4 * 4 + 4 * rng.below(3) as usize,
+        }
+    }
+
     fn message(&self, rng: &mut Rng) -> Vec<u8> {
         let header = self.header(rng);
         if header.kind == 1 {
             return header.to_bytes();
         }
-        let full = rng.one_in(4);
-        let room = if full { rng.pick(&[1416, 1420, 1424, 1468, 1472, 1476]) } else { 20 + rng.below(400) as usize };
+        let full = rng.one_in(2);
+        let room = if full { self.length_at_an_end(rng) } else { 20 + rng.below(400) as usize };
         let mut message = header.to_bytes();
         let standards = rng.pick(&[1, 1, 2, 3, 8, 26, 27]);
         let mut placed = 0;

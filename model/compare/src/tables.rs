@@ -3,6 +3,7 @@
 use model::build::{ip, mend_all, InterfaceEntry, RouteEntry, SheetPlan};
 use model::bytes::mask;
 use model::rng::Rng;
+use model::sheet::{Table, BLOCK, ENTRIES, LEAST_MTU, MOST_BLOCKS, SWITCHES};
 
 /// Few groups, few networks: so that messages, routes and interfaces meet.
 pub fn group(rng: &mut Rng) -> u32 {
@@ -36,6 +37,17 @@ fn count(rng: &mut Rng) -> u64 {
     }
 }
 
+/// An MTU that a sheet may have: Ethernet's, one so small that packets get full, one near the most room, or any.
+pub fn mtu(rng: &mut Rng) -> u16 {
+    match rng.below(8) {
+        0 | 1 => 1500,
+        2 | 3 => LEAST_MTU + rng.below(60) as u16,
+        4 | 5 => LEAST_MTU + rng.below(1000) as u16,
+        6 => 1490 + rng.below(20) as u16,
+        _ => LEAST_MTU + rng.below(u64::from(u16::MAX - LEAST_MTU) + 1) as u16,
+    }
+}
+
 fn interface(rng: &mut Rng) -> InterfaceEntry {
     let length = if rng.one_in(4) { 1 + rng.below(32) as u8 } else { 24 };
     let flags = if rng.one_in(3) { rng.below(4) as u8 } else { 1 };
@@ -44,6 +56,7 @@ fn interface(rng: &mut Rng) -> InterfaceEntry {
         threshold: rng.draw() as u8,
         input: count(rng),
         output: count(rng),
+        mtu: mtu(rng),
         ..InterfaceEntry::new(unicast(rng), length)
     }
 }
@@ -90,10 +103,10 @@ fn route(rng: &mut Rng, interfaces: usize) -> RouteEntry {
 pub fn plan(rng: &mut Rng) -> SheetPlan {
     let interfaces = match rng.below(40) {
         0 => 1 + rng.below(64) as usize,
-        1 => rng.pick(&[20, 21, 22, 42, 43, 63, 64, 65, 84]),
+        1 => rng.pick(&[17, 18, 19, 35, 36, 37, 54, 55, 64, 65, 72]),
         _ => 1 + rng.below(6) as usize,
     };
-    let room = 9 * (16 - interfaces.div_ceil(21));
+    let room = Table::Routes.full() * (MOST_BLOCKS - interfaces.div_ceil(Table::Interfaces.full()));
     let routes = match rng.below(40) {
         0 => rng.below(room as u64 + 1) as usize,
         1 => rng.pick(&[8, 9, 10, 18, 19, room]),
@@ -124,11 +137,13 @@ pub fn spoil_entry(plan: &mut SheetPlan, rng: &mut Rng) {
     let interfaces = plan.interfaces.len();
     if plan.routes.is_empty() || rng.one_in(3) {
         let entry = &mut plan.interfaces[rng.below(interfaces as u64) as usize];
-        match rng.below(4) {
+        match rng.below(6) {
             0 => entry.address = edge_address(rng),
             1 => entry.length = rng.pick(&[0, 1, 32, 33, 64, 255]),
             2 => entry.flags = rng.pick(&[0, 3, 4, 5, 8, 128, 255]),
-            _ => entry.zero = rng.pick(&[0, 1, 128]),
+            3 => entry.zero = rng.pick(&[0, 1, 128]),
+            4 => entry.mtu = rng.pick(&[0, 1, 320, 511, 512, 574, 575, 576, 577, 0x4001, 0x4002, 0xff01, 65_535]),
+            _ => entry.zeros = rng.pick(&[0, 1, 128, 256, 0x8000, 65_535]),
         }
         return;
     }
@@ -154,10 +169,10 @@ pub fn spoil_entry(plan: &mut SheetPlan, rng: &mut Rng) {
 
 /// Takes the last entry out of a block.
 fn take_one_out(block: &mut [u8]) {
-    let size = if block[0] == 1 { 24 } else { 56 };
+    let size = if block[0] == 1 { Table::Interfaces } else { Table::Routes }.entry_size();
     block[1] = block[1].wrapping_sub(1);
-    let end = 4 + size * usize::from(block[1]);
-    if end + size <= 508 {
+    let end = ENTRIES + size * usize::from(block[1]);
+    if end + size <= SWITCHES {
         block[end..end + size].fill(0);
     }
 }
@@ -165,26 +180,26 @@ fn take_one_out(block: &mut [u8]) {
 /// A change to a sheet that mostly breaks one rule of its blocks; its check words are mended mostly.
 pub fn spoil(sheet: &mut Vec<u8>, rng: &mut Rng) {
     let at = rng.below(sheet.len() as u64) as usize;
-    let start = at / 512 * 512;
-    let blocks = sheet.len() / 512;
+    let start = at / BLOCK * BLOCK;
+    let blocks = sheet.len() / BLOCK;
     match rng.below(11) {
         0 => sheet.truncate(at),
         1 => sheet.resize(rng.pick(&[0, 512, 1024, 1536, 8192, 8704]), 0),
         2 => sheet[start + rng.pick(&[0, 1, 2, 3, 508, 509])] = rng.below(24) as u8,
         3 => sheet[at] = rng.pick(&[0, 1, 2, 3, 4, 31, 32, 33, 64, 127, 128, 223, 224, 240, 255]),
         4 => sheet[at] ^= 1 << rng.below(8),
-        5 => take_one_out(&mut sheet[start..start + 512]),
-        6 => take_one_out(&mut sheet[..512]),
+        5 => take_one_out(&mut sheet[start..start + BLOCK]),
+        6 => take_one_out(&mut sheet[..BLOCK]),
         7 | 8 => {
             // a block of the sheet again behind it, with the next number; it may be of the wrong kind there
-            let mut block = sheet[start..start + 512].to_vec();
+            let mut block = sheet[start..start + BLOCK].to_vec();
             block[2..4].copy_from_slice(&(blocks as u16).to_be_bytes());
             block[508..510].fill(0);
             sheet.extend(block);
         }
         9 => {
-            sheet.rotate_left(512);
-            for (number, block) in sheet.chunks_exact_mut(512).enumerate() {
+            sheet.rotate_left(BLOCK);
+            for (number, block) in sheet.chunks_exact_mut(BLOCK).enumerate() {
                 block[2..4].copy_from_slice(&(number as u16).to_be_bytes());
             }
         }

@@ -231,13 +231,13 @@ fn checks() -> Vec<Work> {
         _ => RouteEntry::source_only(ip(10, n as u8, 0, 0), 16).by(1, 0, 1),
     };
     vec![
-        checking("1 block (20 interfaces)", sheet(20, Vec::new())),
-        checking("1 block (21 interfaces)", sheet(21, Vec::new())),
+        checking("1 block (17 interfaces)", sheet(17, Vec::new())),
+        checking("1 block (18 interfaces)", sheet(18, Vec::new())),
         checking("2 blocks (2 interfaces, 9 routes)", blocks(2)),
-        checking("2 blocks (21 interfaces, 9 routes)", sheet(21, groups(9))),
-        checking("4 blocks (21 interfaces, 27 routes)", sheet(21, groups(27))),
+        checking("2 blocks (18 interfaces, 9 routes)", sheet(18, groups(9))),
+        checking("4 blocks (18 interfaces, 27 routes)", sheet(18, groups(27))),
         checking("16 blocks (2 interfaces, 135 routes)", blocks(16)),
-        checking("16 blocks (63 interfaces, 117 routes)", sheet(63, groups(117))),
+        checking("16 blocks (54 interfaces, 117 routes)", sheet(54, groups(117))),
         checking("16 blocks (2 interfaces, 135 routes of all kinds)", sheet(2, (0..135).map(mixed).collect())),
     ]
 }
@@ -436,7 +436,7 @@ pub fn parts() -> Vec<Work> {
     let list = |count| recent(count).try_into().expect("196 bytes");
     let mut works = Vec::new();
     for (name, sheet) in
-        [("1 block (20 interfaces)", sheet(20, Vec::new())), ("2 blocks", blocks(2)), ("16 blocks", blocks(16))]
+        [("1 block (17 interfaces)", sheet(17, Vec::new())), ("2 blocks", blocks(2)), ("16 blocks", blocks(16))]
     {
         works.push(Work::new(format!("sheet check, {name}"), Call::CheckSheet(sheet), 1));
     }

@@ -1,6 +1,6 @@
 //! Random yards, and Queries through them: chains and rings of routers that know one route, and routers thrown together.
 
-use crate::tables::{address, group, router_with, spoil, spoil_entry};
+use crate::tables::{address, group, mtu, router_with, spoil, spoil_entry};
 use model::build::{ip, Header, InterfaceEntry, RouteEntry, SheetPlan};
 use model::bytes::ALL_ONES;
 use model::rng::Rng;
@@ -26,14 +26,18 @@ fn address_of(router: u64, interface: u64) -> u32 {
     ip(10, router as u8, interface as u8, 1)
 }
 
-/// A router of a chain, whose route goes on to the next one, to any other, or ends.
+/// A router of a chain, whose route goes on to the next one, to any other, or ends; its links have Ethernet's MTU, or any.
 fn linked(rng: &mut Rng, number: u64, routers: u64) -> SheetPlan {
+    let narrow = rng.one_in(4);
     let count = 2 + rng.below(3);
     let mut interfaces: Vec<_> =
         (0..count).map(|interface| InterfaceEntry::new(address_of(number, interface), 24)).collect();
     for interface in &mut interfaces {
         if rng.one_in(10) {
             interface.flags = rng.below(4) as u8;
+        }
+        if narrow {
+            interface.mtu = mtu(rng);
         }
     }
     let upstream = match rng.below(40) {
@@ -60,7 +64,7 @@ fn linked(rng: &mut Rng, number: u64, routers: u64) -> SheetPlan {
 fn any(rng: &mut Rng) -> SheetPlan {
     match rng.below(10) {
         0 => {
-            let interfaces = 22 + rng.below(21) as usize;
+            let interfaces = 19 + rng.below(18) as usize;
             router_with(rng, interfaces, 0)
         }
         _ => {

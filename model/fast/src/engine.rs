@@ -3,7 +3,7 @@
 use crate::bytes::{be32, field, is_link_scoped, le32, part, part_mut, put};
 use crate::message::{self, Message, HEADER, MOST, REPLY, REQUEST, STANDARD};
 use crate::recent::{self, Seen};
-use crate::response::{mark_full, Onward, Visit, Way};
+use crate::response::{is_full_anywhere, mark_full, Onward, Visit, Way};
 use crate::route::{choose, is_last_hop, Wanted};
 use crate::sheet::{self, Sheet};
 use crate::table::{Interface, UNKNOWN};
@@ -105,8 +105,8 @@ pub(crate) fn answer<'a>(
         }
     } else {
         requested(&message, arrival.ttl)?;
-        if bytes.len() + STANDARD > MOST {
-            return Ok(send_full(bytes, &message, interface, output));
+        if is_full_anywhere(bytes.len()) {
+            return Ok(send_full(bytes, &message, interface, output)); // by whatever route
         }
     }
     let route = choose(&sheet, Wanted { group: le32(message.header, 4), source: be32(message.header, 8) });
@@ -119,6 +119,9 @@ pub(crate) fn answer<'a>(
     }
     let route = route.map(|route| Way::by(&sheet, route));
     let visit = Visit { sheet, receiving, interface, route, wrong_last_hop, time: arrival.time };
+    if !message.is_query() && visit.is_full(bytes.len()) {
+        return Ok(send_full(bytes, &message, interface, output));
+    }
     Ok(send_longer(bytes, &message, &visit, output))
 }
 

@@ -17,6 +17,8 @@ const SCOPED: u8 = 239;
 const MULTICAST: u8 = 1;
 const BOUNDARY: u8 = 2;
 const PRUNE_SENT: u8 = 2;
+/// What an MTU counts beside the message: the headers of IPv4 and UDP.
+const IP_AND_UDP: usize = 20 + 8;
 
 /// A router as a message meets it.
 #[derive(Clone, Copy)]
@@ -55,6 +57,14 @@ pub struct Onward<'a> {
 }
 
 impl<'a> Visit<'a> {
+    /// Whether a message of this length has no room for another block, by the MTU of the incoming interface, or of the receiving one
+    /// where none is known.
+    #[inline(always)]
+    pub fn is_full(&self, length: usize) -> bool {
+        let link = self.route.and_then(|way| way.incoming).unwrap_or(self.interface);
+        is_full_anywhere(length) || length + STANDARD + IP_AND_UDP > usize::from(be16(link, 24))
+    }
+
     /// Appends this router's block to the message that is the first `length` bytes of the output.
     #[inline(always)]
     pub fn append(&self, output: &mut [u8; MOST], length: usize) {
@@ -148,6 +158,12 @@ fn upstream(route: &Route) -> u32 {
         ALL_ONES => ALL_ROUTERS,
         upstream => upstream,
     }
+}
+
+/// Whether a message has no room for another block whatever the MTU.
+#[inline(always)]
+pub fn is_full_anywhere(length: usize) -> bool {
+    length + STANDARD > MOST
 }
 
 /// Tells in the last type 4 block that there was no room for another.

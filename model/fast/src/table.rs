@@ -8,10 +8,11 @@ pub const SWITCHES: usize = 508;
 pub const INTERFACES: u8 = 1;
 const ROUTES: u8 = 2;
 /// Bytes of an entry, and entries in a full block.
-pub const INTERFACE: usize = 24;
-pub const FULL_OF_INTERFACES: usize = 21;
+pub const INTERFACE: usize = 28;
+pub const FULL_OF_INTERFACES: usize = (SWITCHES - ENTRIES) / INTERFACE;
 pub const ROUTE: usize = 56;
-pub const FULL_OF_ROUTES: usize = 9;
+pub const FULL_OF_ROUTES: usize = (SWITCHES - ENTRIES) / ROUTE;
+const LEAST_MTU: u32 = 576;
 /// The switch of the first block, as it lies.
 const PROHIBITED: u16 = u16::from_le_bytes([0, 1]);
 /// An incoming interface that is not known.
@@ -35,16 +36,28 @@ impl Sum {
         Sum { words: u64::from(le32(block, 0)) + u64::from(le32(block, SWITCHES)), carries: 0 }
     }
 
-    /// A chain of additions, each of which takes the carry of the one before.
+    /// A chain of additions, each of which takes the carry of the one before. An interface ends with half a word.
     #[inline(always)]
     fn add(&mut self, entry: &[u8]) {
+        let words = entry.chunks_exact(8);
+        let half = words.remainder();
         let mut carry = false;
-        for word in entry.chunks_exact(8) {
-            let (sum, over) = self.words.overflowing_add(le64(word, 0));
-            let (sum, over_again) = sum.overflowing_add(u64::from(carry));
-            (self.words, carry) = (sum, over | over_again);
+        for word in words {
+            carry = self.add_word(le64(word, 0), carry);
+        }
+        if !half.is_empty() {
+            carry = self.add_word(le32(half, 0).into(), carry);
         }
         self.carries += u64::from(carry);
+    }
+
+    /// Adds a word and a carry, and answers the next one.
+    #[inline(always)]
+    fn add_word(&mut self, word: u64, carry: bool) -> bool {
+        let (sum, over) = self.words.overflowing_add(word);
+        let (sum, over_again) = sum.overflowing_add(u64::from(carry));
+        self.words = sum;
+        over | over_again
     }
 
     #[inline(always)]
@@ -68,11 +81,13 @@ fn entries<const N: usize>(block: &[u8; BLOCK], used: usize) -> impl Iterator<It
     block[ENTRIES..SWITCHES].chunks_exact(N).zip(0..used).map(|(entry, _)| part(entry, 0))
 }
 
-/// Whether the entries behind those in use are 0. Of most blocks there are none.
+/// Whether the entries behind those in use are 0. Of most blocks there are none. They are whole words, and half a one before
+/// where an odd number of interfaces is left.
 #[inline(always)]
 fn rest_is_zero<const N: usize>(block: &[u8; BLOCK], used: usize) -> bool {
     let behind = ENTRIES + N * used;
-    behind == SWITCHES || all_zero(&block[behind..SWITCHES])
+    let whole = behind + (SWITCHES - behind) % 8;
+    behind == SWITCHES || le32(block, behind) == 0 && all_zero(&block[whole..SWITCHES])
 }
 
 /// The number of entries in use of a valid block of interfaces.
@@ -124,7 +139,14 @@ const INTERFACE_LENGTH: u64 = u64::from_le_bytes([0, 0, 0, 0, 1, 0, 0, 0]);
 
 #[inline(always)]
 fn interface_ok(entry: &Interface) -> bool {
-    le64(entry, 0).wrapping_sub(INTERFACE_LENGTH) & INTERFACE_ZEROS == 0 && is_unicast(entry[0])
+    let first_ok = le64(entry, 0).wrapping_sub(INTERFACE_LENGTH) & INTERFACE_ZEROS == 0;
+    first_ok && last_ok(be32(entry, 24)) && is_unicast(entry[0])
+}
+
+/// MTU and zeros: turned, the zeros are the upper half of a number that is not over 16 bits.
+#[inline(always)]
+fn last_ok(mtu_and_zeros: u32) -> bool {
+    mtu_and_zeros.rotate_left(16).wrapping_sub(LEAST_MTU) <= u32::from(u16::MAX) - LEAST_MTU
 }
 
 /// What is fixed in the first bytes of a route. Kind 2: all but two flags, the source too. Kind 1, with 1 taken off its length
@@ -194,10 +216,14 @@ mod tests {
         block
     }
 
-    /// A block of one interface, 10.0.0.1/24.
-    fn of_one(place: u8, switches: [u8; 2]) -> [u8; BLOCK] {
+    /// A block of interfaces 10.0.0.1/24 with an MTU of 1500.
+    fn of(interfaces: usize, place: u8, switches: [u8; 2]) -> [u8; BLOCK] {
+        let mut entry = [0; INTERFACE];
+        entry[..6].copy_from_slice(&[10, 0, 0, 1, 24, 1]);
+        entry[24..26].copy_from_slice(&1500_u16.to_be_bytes());
         let mut block = [0; BLOCK];
-        block[..10].copy_from_slice(&[1, 1, 0, place, 10, 0, 0, 1, 24, 1]);
+        block[..ENTRIES].copy_from_slice(&[1, interfaces as u8, 0, place]);
+        block[ENTRIES..ENTRIES + INTERFACE * interfaces].copy_from_slice(&entry.repeat(interfaces));
         block[SWITCHES..510].copy_from_slice(&switches);
         mended(block)
     }
@@ -217,28 +243,50 @@ mod tests {
             blocks[1][turn % BLOCK] ^= 1;
             blocks[2].swap(turn % BLOCK & !1, turn % BLOCK | 1);
             for block in blocks {
-                let mut sum = Sum::of_frame(&block);
-                entries::<ROUTE>(&block, FULL_OF_ROUTES).for_each(|entry| sum.add(entry));
-                assert_eq!(sum.is_right(), carried(&block) == 0xffff);
+                let mut sums = [Sum::of_frame(&block), Sum::of_frame(&block)];
+                entries::<ROUTE>(&block, FULL_OF_ROUTES).for_each(|entry| sums[0].add(entry));
+                entries::<INTERFACE>(&block, FULL_OF_INTERFACES).for_each(|entry| sums[1].add(entry));
+                assert_eq!(sums.map(|sum| sum.is_right()), [carried(&block) == 0xffff; 2]);
             }
         }
     }
 
     #[test]
     fn one_switch_in_the_first_block() {
-        let right = |place: u8, switches| interfaces_in(&of_one(place, switches), usize::from(place)).is_some();
+        let right = |place: u8, switches| interfaces_in(&of(1, place, switches), usize::from(place)).is_some();
         assert!(right(0, [0, 0]) && right(0, [0, 1]) && right(3, [0, 0]));
         assert!(!right(0, [0, 2]) && !right(0, [1, 0]) && !right(3, [0, 1]));
     }
 
     #[test]
     fn no_byte_of_a_block_can_change_alone() {
-        let mut block = of_one(2, [0, 0]);
-        assert!(interfaces_in(&block, 2).is_some() && interfaces_in(&block, 3).is_none());
-        for at in 0..BLOCK {
-            block[at] ^= 1;
-            assert!(interfaces_in(&block, 2).is_none());
-            block[at] ^= 1;
+        for interfaces in 1..=FULL_OF_INTERFACES {
+            let mut block = of(interfaces, 2, [0, 0]);
+            assert_eq!(interfaces_in(&block, 2), Some(interfaces));
+            assert_eq!(interfaces_in(&block, 3), None);
+            for at in 0..BLOCK {
+                block[at] ^= 1;
+                assert_eq!(interfaces_in(&block, 2), None);
+                block[at] ^= 1;
+            }
         }
+    }
+
+    #[test]
+    fn what_is_behind_the_entries_is_zero() {
+        for interfaces in 1..=FULL_OF_INTERFACES {
+            for at in ENTRIES + INTERFACE * interfaces..SWITCHES {
+                let mut block = of(interfaces, 0, [0, 0]);
+                block[at] = 1;
+                assert_eq!(interfaces_in(&mended(block), 0), None);
+            }
+        }
+    }
+
+    #[test]
+    fn mtus_and_zeros() {
+        let word = |mtu: u16, zeros: u16| u32::from(mtu) << 16 | u32::from(zeros);
+        assert!((0..=u16::MAX).all(|mtu| last_ok(word(mtu, 0)) == (mtu >= 576)));
+        assert!((1..=u16::MAX).all(|zeros| [0, 575, 576, 1500, 65_535].iter().all(|mtu| !last_ok(word(*mtu, zeros)))));
     }
 }

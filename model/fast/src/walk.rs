@@ -145,16 +145,18 @@ impl<'a> Trip<'a> {
                 Err(end) => break end,
             };
             steps += 1;
-            if length + STANDARD > MOST {
+            let visit = self.visit(router, receiving, output);
+            if visit.is_full(length) {
                 mark_full(output, length - STANDARD);
                 onward = None;
             } else {
-                onward = self.visit(router, receiving, output, length);
+                visit.append(output, length);
                 length += STANDARD;
+                onward = visit.onward(blocks(length) == usize::from(output[3]));
             }
         };
         output[0] = if end == REPLIED { REPLY } else { REQUEST };
-        Ok([end, steps, ((length - HEADER) / STANDARD) as u32, length as u32])
+        Ok([end, steps, blocks(length) as u32, length as u32])
     }
 
     /// The router and interface that a message goes to, or the walk's end.
@@ -167,16 +169,19 @@ impl<'a> Trip<'a> {
         self.addresses.holder(self.yard, destination).ok_or(NOBODY)
     }
 
-    /// A later router, which drops nothing: it appends its block to the message in the output.
+    /// A later router, which drops nothing, as it meets the message in the output.
     #[inline(always)]
-    fn visit(&self, router: usize, receiving: usize, output: &mut [u8; MOST], length: usize) -> Option<Onward<'a>> {
+    fn visit(&self, router: usize, receiving: usize, output: &[u8; MOST]) -> Visit<'a> {
         let sheet = self.sheet(router);
         let wanted = Wanted { group: le32(output, 4), source: be32(output, 8) };
         let route = choose(&sheet, wanted).map(|route| Way::by(&sheet, route));
         let interface = sheet.interface(receiving);
-        let visit = Visit { sheet, receiving, interface, route, wrong_last_hop: false, time: self.times[router] };
-        visit.append(output, length);
-        let blocks = (length - HEADER) / STANDARD + 1;
-        visit.onward(blocks == usize::from(output[3]))
+        Visit { sheet, receiving, interface, route, wrong_last_hop: false, time: self.times[router] }
     }
+}
+
+/// How many blocks a message of a walk has: they are of type 4.
+#[inline(always)]
+fn blocks(length: usize) -> usize {
+    (length - HEADER) / STANDARD
 }

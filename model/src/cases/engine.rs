@@ -7,14 +7,16 @@
 
 use super::faults::{self, Fault};
 use super::plans::{accepting, plan};
+use super::rooms::{self, Case};
 use super::situations::{all_codes, Scope, Situation};
 use super::tape::{digest, Area, Tape};
 use crate::build::{augmented, ip, mend_all, standard, Header, RouteEntry, SheetPlan};
 use crate::bytes::{be16, be32, mask};
 use crate::engine::{step, Arrival};
-use crate::message::{blocks, BlockType};
+use crate::message::{blocks, BlockType, STANDARD};
 use crate::recent::{Entry, Recent};
 use crate::rng::Rng;
+use crate::sheet::{Table, ENTRIES, LEAST_MTU};
 use std::net::Ipv4Addr;
 
 const STEP: u8 = 6;
@@ -44,6 +46,8 @@ pub fn tape() -> Tape {
     cases.fills();
     cases.hops();
     cases.no_room();
+    cases.rooms();
+    cases.drops_before_room();
     cases.no_block_before();
     cases.recent_lists();
     cases.arrivals();
@@ -305,6 +309,39 @@ impl Cases {
         }
     }
 
+    /// A full message goes home as it came; into any other a block is appended.
+    fn rooms(&mut self) {
+        for Case { label, setup, full } in rooms::all() {
+            let answer = self.run(&label, &setup);
+            let sent = usize::from(be16(&self.record.bytes, 0));
+            assert_eq!(sent, setup.message.len() + if full { 0 } else { STANDARD }, "{label}");
+            assert_eq!(answer.code == Some(0x81), full, "{label}");
+        }
+    }
+
+    /// A message that would be full is dropped by the row that it meets.
+    fn drops_before_room(&mut self) {
+        let mut plan = accepting();
+        plan.interfaces.iter_mut().for_each(|interface| interface.mtu = LEAST_MTU);
+        let message = Header { hops: 3, ..faults::header(2) }.with(&[standard(1), standard(2), augmented(876, 3)]);
+        let base = Setup::new(message, &plan);
+        assert_eq!(self.run("full, and no drop", &base), Answer { number: 101, code: Some(0x81) });
+        let wrongs: [SetupFault; 7] = [
+            ("MTU 575", 3, false, |s| set_mtu(s, 1, LEAST_MTU - 1)),
+            ("no such interface", 4, false, |s| s.receiving = 3),
+            ("1473 bytes", 5, false, |s| resize(&mut s.message, 1473)),
+            ("a byte more", 13, false, |s| s.message.push(0)),
+            ("sent elsewhere", 14, false, |s| s.destination = ip(10, 7, 0, 2)),
+            ("TTL 254", 15, false, |s| s.ttl = 254),
+            ("hops 2", 16, false, |s| hops(s, 2)),
+        ];
+        for (name, number, _, make) in wrongs {
+            let mut setup = base.clone();
+            make(&mut setup);
+            self.expect(number, &format!("full, and {name}"), &setup);
+        }
+    }
+
     /// No room and no type 4 block for 0x81: 13 comes before, for a Request without one or with another block first, and for a
     /// Query with blocks behind it, in whatever room.
     fn no_block_before(&mut self) {
@@ -384,7 +421,7 @@ impl Cases {
 
     /// 64 interfaces, and 16 blocks.
     fn large_sheets(&mut self, rng: &mut Rng) {
-        for (interfaces, routes) in [(64, 108), (63, 1), (22, 10), (1, 135)] {
+        for (interfaces, routes) in [(64, 108), (63, 1), (19, 10), (1, 135)] {
             let plan = plan(interfaces, routes);
             for number in 0..12 {
                 let receiving = rng.below(interfaces as u64) as u32;
@@ -522,6 +559,19 @@ fn mended(setup: &mut Setup, at: usize, value: u8) {
     }
 }
 
+/// Gives an interface of the first block an MTU, the sums mended after.
+fn set_mtu(setup: &mut Setup, number: usize, mtu: u16) {
+    let at = mtu_at(number);
+    for (at, byte) in (at..).zip(mtu.to_be_bytes()) {
+        mended(setup, at, byte);
+    }
+}
+
+/// Where an interface of the first block has its MTU.
+const fn mtu_at(number: usize) -> usize {
+    ENTRIES + Table::Interfaces.entry_size() * number + 24
+}
+
 fn set_recent(setup: &mut Setup, at: usize, value: u8) {
     if setup.recent.len() > at {
         setup.recent[at] = value;
@@ -529,7 +579,7 @@ fn set_recent(setup: &mut Setup, at: usize, value: u8) {
 }
 
 /// Faults that a Query and a Request can both have.
-const SETUP: [SetupFault; 44] = [
+const SETUP: [SetupFault; 49] = [
     ("output 1471", 1, true, |s| s.output = 1471),
     ("output 0", 1, false, |s| s.output = 0),
     ("output 1420", 1, false, |s| s.output = 1420),
@@ -557,6 +607,11 @@ const SETUP: [SetupFault; 44] = [
     ("sheet switches", 3, false, |s| mended(s, 509, 2)),
     ("sheet switches of block 1", 3, false, |s| mended(s, 1021, 1)),
     ("sheet interface flags", 3, false, |s| mended(s, 9, 4)),
+    ("first MTU 575", 3, false, |s| set_mtu(s, 0, 575)),
+    ("first MTU 0", 3, false, |s| set_mtu(s, 0, 0)),
+    ("last MTU 575", 3, true, |s| set_mtu(s, 2, 575)),
+    ("byte behind the MTU", 3, false, |s| mended(s, mtu_at(1) + 2, 1)),
+    ("second byte behind the MTU", 3, false, |s| mended(s, mtu_at(1) + 3, 1)),
     ("sheet route map", 3, false, |s| mended(s, 512 + 4 + 39, 8)),
     ("interface 3", 4, true, |s| s.receiving = 3),
     ("interface 4", 4, false, |s| s.receiving = 4),

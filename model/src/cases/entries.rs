@@ -23,13 +23,15 @@ use super::places::{assert_told, exchanged, exchanges, fillings, Places};
 use super::plans::accepting;
 use super::situations::{all_codes, Situation};
 use super::tape::{digest, noise, Area, Tape};
-use super::trips::{header, line, line_trip, ring, wide_trip, worked_trip, Trip, ENDINGS, REFUSALS};
+use super::trips::{header, line, line_trip, loop_trip, ring, wide_trip, worked_trip, Trip, ENDINGS, REFUSALS};
 use crate::build::{augmented, ip, standard, Header};
 use crate::bytes::be64;
 use crate::clock::{arrival, LIMIT};
 use crate::engine::{step, Arrival};
 use crate::entries::{clock_advance, clock_start, clock_unix, walk};
+use crate::message::MOST;
 use crate::recent::LENGTH;
+use crate::sheet::LEAST_MTU;
 use crate::walk::{Start, SHEET};
 use std::collections::BTreeSet;
 
@@ -65,6 +67,7 @@ pub fn tape() -> Tape {
     cases.steps();
     cases.entered_and_seen();
     cases.full();
+    cases.rooms();
     cases.codes();
     cases.drops();
     cases.places_of_a_walk();
@@ -433,6 +436,23 @@ impl Cases {
         }
     }
 
+    /// Whose MTU counts, by an interface of another number for each.
+    fn rooms(&mut self) {
+        for (incoming, narrow, full) in [(1, 1, true), (1, 0, false), (2, 2, true), (2, 1, false), (u16::MAX, 0, true)]
+        {
+            let mut plan = accepting();
+            let upstream = if incoming == u16::MAX { 0 } else { ip(10, 7, 1, 2) };
+            plan.routes[0] = plan.routes[0].by(incoming, upstream, 1);
+            plan.interfaces[narrow].mtu = LEAST_MTU;
+            for (length, full) in [(496, false), (500, full), (1420, full), (1424, true), (MOST, true)] {
+                let message = Header { hops: 255, ..faults::header(2) }.with(&[standard(1), augmented(length - 72, 2)]);
+                let label = format!("by {incoming}, narrow {narrow}, {length}");
+                assert!(self.step(&label, &Setup::new(message, &plan)).0 >= 100, "{label}");
+                assert_eq!(self.lent.output.bytes[71] == 0x81, full, "{label}");
+            }
+        }
+    }
+
     /// Each code, to a Query and to a Request.
     fn codes(&mut self) {
         for (kind, word) in [(1, "query"), (2, "request")] {
@@ -505,6 +525,15 @@ impl Cases {
         }
         let round = Trip { yard: ring(31), ..line_trip(31, 5, 255) };
         self.expect_walk(101, "ring of 31", &round);
+        for (mtus, end) in [
+            ([[576; 2]; 2], 101),
+            ([[1500, 1000], [1500, 1500]], 101),
+            ([[1500, 1500], [1500, 576]], 101),
+            ([[575, 1500], [1500, 1500]], 21),
+            ([[1500, 1500], [1500, 0]], 21),
+        ] {
+            self.expect_walk(end, &format!("loop {mtus:?}"), &loop_trip(mtus, 255));
+        }
     }
 
     /// Each refusal, alone and with each later one.

@@ -9,6 +9,7 @@ mod places;
 mod plans;
 mod recent;
 mod reply;
+mod rooms;
 mod route;
 mod sheet;
 mod situations;

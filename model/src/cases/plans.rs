@@ -2,14 +2,16 @@
 
 use crate::build::{ip, InterfaceEntry, RouteEntry, SheetPlan};
 use crate::rng::Rng;
+use crate::sheet::LEAST_MTU;
 
-/// An interface address: 10.x.y.1/24.
+/// An interface 10.7.x.1/24, whose counts and MTU name it. The MTU leaves room for every message.
 pub fn interface(number: usize) -> InterfaceEntry {
     let counts = 1000 + number as u64;
     InterfaceEntry {
         threshold: number as u8,
         input: counts,
         output: counts << 32,
+        mtu: 1500 + 700 * number as u16,
         ..InterfaceEntry::new(ip(10, 7, number as u8, 1), 24)
     }
 }
@@ -88,6 +90,7 @@ pub fn random_interface(rng: &mut Rng) -> InterfaceEntry {
         threshold: rng.draw() as u8,
         input: rng.draw(),
         output: rng.draw(),
+        mtu: LEAST_MTU + rng.below(u64::from(u16::MAX - LEAST_MTU) + 1) as u16,
         ..InterfaceEntry::new(ip(octet, rng.draw() as u8, rng.draw() as u8, rng.draw() as u8), 1 + rng.below(32) as u8)
     }
 }

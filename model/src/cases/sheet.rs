@@ -8,7 +8,7 @@ use super::tape::{Area, Tape};
 use crate::build::{ip, mend_all, InterfaceEntry, RouteEntry, SheetPlan};
 use crate::bytes::be16;
 use crate::rng::Rng;
-use crate::sheet::{sum, Rule, Sheet, BLOCK};
+use crate::sheet::{sum, Rule, Sheet, Table, BLOCK, ENTRIES, LEAST_MTU, SWITCHES};
 
 const CHECK: u8 = 2;
 const INTERFACE: u8 = 3;
@@ -25,6 +25,7 @@ pub fn tape() -> Tape {
         cases.interface_rules(&place);
         cases.route_rules(&place);
     }
+    cases.interface_rules(&Place::end_of_a_full_block());
     cases.block_rules();
     cases.sums();
     cases.flips(&mut Rng::new(11));
@@ -53,6 +54,11 @@ impl Place {
     /// In the last of several blocks of their kinds.
     fn last_entries() -> Place {
         Place { name: "last", plan: plan(24, 21), interface: 23, route: 20 }
+    }
+
+    fn end_of_a_full_block() -> Place {
+        let [interface, route] = [Table::Interfaces, Table::Routes].map(|table| table.full() - 1);
+        Place { name: "full block's", plan: plan(24, 21), interface, route }
     }
 }
 
@@ -117,9 +123,22 @@ impl Cases {
     }
 
     fn shapes(&mut self) {
-        for (interfaces, routes) in
-            [(1, 0), (1, 1), (2, 3), (20, 8), (21, 9), (22, 10), (42, 18), (43, 19), (63, 117), (64, 108), (1, 135)]
-        {
+        for (interfaces, routes) in [
+            (1, 0),
+            (1, 1),
+            (2, 3),
+            (17, 8),
+            (18, 9),
+            (19, 10),
+            (21, 0),
+            (36, 0),
+            (36, 18),
+            (37, 19),
+            (54, 117),
+            (55, 108),
+            (64, 108),
+            (1, 135),
+        ] {
             for prohibited in [false, true] {
                 let plan = SheetPlan { prohibited, ..plan(interfaces, routes) };
                 let bytes = plan.to_bytes();
@@ -144,7 +163,7 @@ impl Cases {
     }
 
     fn lengths(&mut self) {
-        for interfaces in [63, 64, 65, 66, 84] {
+        for interfaces in [63, 64, 65, 66, 72] {
             let bytes = plan(interfaces, 0).to_bytes();
             self.either(interfaces <= 64, Rule::TooManyInterfaces, &format!("interfaces {interfaces}"), &bytes);
         }
@@ -188,6 +207,23 @@ impl Cases {
         }
         let free = InterfaceEntry { threshold: 255, input: u64::MAX, output: u64::MAX, ..base };
         self.interface_case(place, true, Rule::InterfaceZero, "counts", free);
+        self.mtus(place, base);
+    }
+
+    /// MTUs at the least one and round Ethernet's, and those that are on the other side of the least with their bytes exchanged;
+    /// and what stands behind.
+    fn mtus(&mut self, place: &Place, base: InterfaceEntry) {
+        let edges = [0, 1, 28, 80, 255, 256, 511, 512, 548, 574, 575, 576, 577, 604, 639, 640, 768, 1024, 1280];
+        let others = [1471, 1472, 1499, 1500, 1501, 9000, 32_767, 32_768, 65_279, 65_534, 65_535];
+        let exchanged = [0x0140, 0x01ff, 0x4001, 0x4002, 0xff01];
+        for mtu in edges.into_iter().chain(others).chain(exchanged) {
+            let entry = InterfaceEntry { mtu, ..base };
+            self.interface_case(place, mtu >= LEAST_MTU, Rule::InterfaceMtu, &format!("MTU {mtu}"), entry);
+        }
+        for zeros in [0, 1, 128, 255, 256, 0x8000, 0xff00, 65_535] {
+            let entry = InterfaceEntry { zeros, ..base };
+            self.interface_case(place, zeros == 0, Rule::InterfaceZeros, &format!("zeros {zeros}"), entry);
+        }
     }
 
     fn route_case(&mut self, place: &Place, keeps: bool, rule: Rule, what: &str, entry: RouteEntry) {
@@ -339,7 +375,7 @@ impl Cases {
     }
 
     fn block_rules(&mut self) {
-        let four = plan(22, 10).to_bytes();
+        let four = plan(19, 10).to_bytes();
         self.block_heads(&four);
         let two = plan(2, 3).to_bytes();
         for (at, value) in [(508, 1), (508, 128), (509, 2), (509, 3), (509, 128), (509, 255)] {
@@ -349,13 +385,14 @@ impl Cases {
         for (at, value) in [(1020, 1), (1021, 1), (1021, 2), (1021, 255)] {
             self.with_bytes(Some(Rule::Switches), &format!("block 1 switch {at} {value}"), &two, &[(at, value)]);
         }
-        let unused = [(52, 1), (53, 255), (300, 4), (507, 1), (512 + 172, 1), (512 + 173, 128), (1018, 1), (1019, 1)];
+        let unused = [(60, 1), (61, 255), (300, 4), (507, 1), (512 + 172, 1), (512 + 173, 128), (1018, 1), (1019, 1)];
         for (at, value) in unused {
             self.with_bytes(Some(Rule::UnusedBytes), &format!("unused byte {at} {value}"), &two, &[(at, value)]);
         }
         self.block_orders();
         self.no_interface_block();
         self.empty_blocks();
+        self.overfull_blocks();
     }
 
     /// Bytes 0 to 3 of each block of a sheet of two interface and two route blocks.
@@ -370,33 +407,34 @@ impl Cases {
                 let label = format!("block {block} number {at} {value}");
                 self.with_bytes(Some(Rule::BlockNumber), &label, four, &[(start + at, value)]);
             }
-            for used in [0, 22, 24, 64, 128, 255] {
+            for used in [0, 19, 20, 21, 22, 64, 128, 255] {
                 let label = format!("block {block} used {used}");
                 self.with_bytes(Some(Rule::Used), &label, four, &[(start + 1, used)]);
             }
         }
         self.with_bytes(Some(Rule::Used), "block 3 used 10", four, &[(3 * BLOCK + 1, 10)]);
-        self.with_bytes(Some(Rule::UnusedBytes), "block 0 used 20", four, &[(1, 20)]);
+        self.with_bytes(Some(Rule::UnusedBytes), "block 0 used 17", four, &[(1, 17)]);
         self.with_bytes(Some(Rule::UnusedBytes), "block 2 used 8", four, &[(2 * BLOCK + 1, 8)]);
         self.with_bytes(Some(Rule::InterfaceAddress), "block 1 used 2", four, &[(BLOCK + 1, 2)]);
         self.with_bytes(Some(Rule::RouteKind), "block 3 used 2", four, &[(3 * BLOCK + 1, 2)]);
-        self.partly_filled(four, 0, 20, 4 + 20 * 24);
-        self.partly_filled(four, 0, 1, 4 + 24);
-        self.partly_filled(four, 2, 8, 4 + 8 * 56);
-        self.partly_filled(four, 2, 1, 4 + 56);
+        self.partly_filled(four, 0, Table::Interfaces, 17);
+        self.partly_filled(four, 0, Table::Interfaces, 1);
+        self.partly_filled(four, 2, Table::Routes, 8);
+        self.partly_filled(four, 2, Table::Routes, 1);
     }
 
-    fn partly_filled(&mut self, four: &[u8], block: usize, used: u8, from: usize) {
+    fn partly_filled(&mut self, four: &[u8], block: usize, table: Table, used: usize) {
         let mut bytes = four.to_vec();
-        bytes[block * BLOCK + 1] = used;
-        bytes[block * BLOCK + from..block * BLOCK + 508].fill(0);
+        let partly = &mut bytes[block * BLOCK..][..BLOCK];
+        partly[1] = used as u8;
+        partly[ENTRIES + used * table.entry_size()..SWITCHES].fill(0);
         mend_all(&mut bytes);
         self.broken(Rule::PartlyFilled, &format!("block {block} partly filled {used}"), &bytes);
     }
 
     /// Blocks in the wrong order, each numbered by its place.
     fn block_orders(&mut self) {
-        let full = plan(42, 18).to_bytes();
+        let full = plan(36, 18).to_bytes();
         let blocks: Vec<&[u8]> = full.chunks(BLOCK).collect();
         for order in
             [&[2][..], &[2, 0], &[2, 3], &[0, 2, 1], &[2, 0, 1, 3], &[0, 2, 1, 3], &[0, 1, 2, 0], &[0, 2, 3, 1]]
@@ -422,12 +460,26 @@ impl Cases {
 
     /// Blocks with no entry in use and no other rule broken: the only one of their kind, and one behind a full one.
     fn empty_blocks(&mut self) {
-        for (interfaces, routes, block) in [(1, 0, 0), (22, 0, 1), (22, 10, 1), (1, 1, 1), (1, 10, 2), (22, 10, 3)] {
+        for (interfaces, routes, block) in [(1, 0, 0), (19, 0, 1), (19, 10, 1), (1, 1, 1), (1, 10, 2), (19, 10, 3)] {
             let mut bytes = plan(interfaces, routes).to_bytes();
             bytes[block * BLOCK + 1] = 0;
-            bytes[block * BLOCK + 4..block * BLOCK + 508].fill(0);
+            bytes[block * BLOCK + ENTRIES..block * BLOCK + SWITCHES].fill(0);
             mend_all(&mut bytes);
             self.broken(Rule::Used, &format!("shape {interfaces} {routes}, block {block} empty"), &bytes);
+        }
+    }
+
+    /// Full blocks, the only one or the last of their kind, that claim more entries than there are bytes for: no other rule is broken.
+    fn overfull_blocks(&mut self) {
+        let interfaces = [(18, 0, 0), (18, 9, 0), (36, 0, 1), (36, 9, 1), (54, 0, 2)].map(|shape| (shape, 18));
+        let routes = [(1, 9, 1), (18, 9, 1), (36, 18, 3)].map(|shape| (shape, 9));
+        for ((interfaces, routes, block), full) in interfaces.into_iter().chain(routes) {
+            let bytes = plan(interfaces, routes).to_bytes();
+            for used in [full, full + 1, full + 2, full + 3, 64 + full, 128 + full, 255] {
+                let rule = (used > full).then_some(Rule::Used);
+                let label = format!("shape {interfaces} {routes}, block {block} claims {used}");
+                self.with_bytes(rule, &label, &bytes, &[(block * BLOCK + 1, used)]);
+            }
         }
     }
 
@@ -522,7 +574,7 @@ impl Cases {
         for number in 0..20 {
             let mut bytes: Vec<u8> = (0..BLOCK).map(|_| rng.draw() as u8).collect();
             let _ = self.check(&format!("random bytes {number}"), &bytes);
-            bytes[..4].copy_from_slice(&[1, 1 + rng.below(21) as u8, 0, 0]);
+            bytes[..4].copy_from_slice(&[1, 1 + rng.below(Table::Interfaces.full() as u64) as u8, 0, 0]);
             mend_all(&mut bytes);
             let _ = self.check(&format!("random entries {number}"), &bytes);
         }
@@ -553,8 +605,18 @@ fn joined(fields: &[u64]) -> String {
 }
 
 fn interface_line(entry: &InterfaceEntry) -> String {
-    let InterfaceEntry { address, length, flags, threshold, zero, input, output } = *entry;
-    joined(&[address.into(), length.into(), flags.into(), threshold.into(), zero.into(), input, output])
+    let e = entry;
+    joined(&[
+        e.address.into(),
+        e.length.into(),
+        e.flags.into(),
+        e.threshold.into(),
+        e.zero.into(),
+        e.input,
+        e.output,
+        e.mtu.into(),
+        e.zeros.into(),
+    ])
 }
 
 fn route_line(entry: &RouteEntry) -> String {

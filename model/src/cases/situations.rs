@@ -3,7 +3,7 @@
 use super::engine::Setup;
 use super::faults;
 use super::plans::interface;
-use crate::build::{augmented, ip, standard, Header, RouteEntry, SheetPlan};
+use crate::build::{augmented, ip, standard, Header, InterfaceEntry, RouteEntry, SheetPlan};
 use crate::rng::Rng;
 
 /// The tests, each true if its code applies; and what else differs between cases.
@@ -28,7 +28,14 @@ pub struct Situation {
     pub upstream: u32,
     pub unknown_incoming: bool,
     pub hops: u8,
+    pub mtus: [u16; INTERFACES],
+    /// A Request's length, [`SHORT`] or longer by an Augmented block.
+    pub length: usize,
 }
+
+const INTERFACES: usize = 4;
+/// The length of a Request without an Augmented block at its end.
+const SHORT: usize = 136;
 
 /// Where a boundary of a scoped group is.
 #[derive(Clone, Copy, PartialEq, Eq)]
@@ -88,6 +95,8 @@ impl Situation {
             upstream: ip(10, 7, 1, 2),
             unknown_incoming: false,
             hops: 9,
+            mtus: [1500; INTERFACES],
+            length: SHORT,
         }
     }
 
@@ -134,7 +143,17 @@ impl Situation {
         situation.route_kind = 1 + rng.below(3) as u8;
         situation.upstream = rng.pick(&[0, u32::MAX, ip(10, 7, 1, 2), ip(198, 51, 100, 9)]);
         situation.hops = rng.pick(&[1, 3, 4, 5, 255]);
+        if rng.one_in(2) {
+            situation.crowd(rng);
+        }
         situation
+    }
+
+    /// Small MTUs among others, and a Request that fills the room of one of them, nearly or just not.
+    fn crowd(&mut self, rng: &mut Rng) {
+        self.mtus = self.mtus.map(|_| rng.pick(&[576, 577, 578, 579, 600, 1000, 1499, 1500, 1501, 9000, 65_535]));
+        let filling = usize::from(rng.pick(&self.mtus).min(1500)) - 80;
+        self.length = filling / 4 * 4 + 4 * rng.below(5) as usize - 8;
     }
 
     fn group(&self) -> u32 {
@@ -146,7 +165,9 @@ impl Situation {
 
     /// Interface 0 receives, 1 is towards the source, 2 serves clients, 3 does nothing.
     fn interfaces(&self) -> SheetPlan {
-        let mut interfaces: Vec<_> = (0..4).map(interface).collect();
+        let numbered = self.mtus.into_iter().enumerate();
+        let mut interfaces: Vec<_> =
+            numbered.map(|(number, mtu)| InterfaceEntry { mtu, ..interface(number) }).collect();
         if self.no_multicast {
             interfaces[0].flags &= !1;
         }
@@ -191,7 +212,11 @@ impl Situation {
         let header = Header { client, group: self.group(), hops: self.hops, ..faults::header(self.kind) };
         match self.kind {
             1 => header.to_bytes(),
-            _ => header.with(&[standard(0x21), augmented(12, 0x22), standard(0x23)]),
+            _ => {
+                let mut blocks = vec![standard(0x21), augmented(12, 0x22), standard(0x23)];
+                blocks.extend((self.length > SHORT).then(|| augmented(self.length - SHORT, 0x24)));
+                header.with(&blocks)
+            }
         }
     }
 

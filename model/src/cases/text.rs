@@ -6,7 +6,8 @@ use super::faults;
 use super::situations::{all_codes, Situation};
 use super::tape::{Area, Tape};
 use super::trips::{
-    header, line, random_trips, router, wide, wide_trip, worked_trip, yard_of, Trip, ENDINGS, GROUP, REFUSALS,
+    header, line, loop_trip, random_trips, router, wide, wide_trip, worked_trip, yard_of, Trip, ENDINGS, GROUP,
+    REFUSALS,
 };
 use crate::build::{ip, Header, InterfaceEntry, RouteEntry, SheetPlan};
 use crate::bytes::be32;
@@ -24,6 +25,7 @@ pub fn tape() -> Tape {
     let input = Area::new(1, INPUT);
     let mut cases = Cases { tape: Tape::default(), input, ends: BTreeSet::new(), codes: BTreeSet::new() };
     cases.worked_examples();
+    cases.loops();
     cases.cuts();
     cases.heads();
     cases.places_of_arrival();
@@ -91,6 +93,24 @@ impl Cases {
         assert!(full.lines().last().is_some_and(|line| line.starts_with("27 out ") && line.ends_with(" code 129")));
         self.expect("P4", &worked_trip(0, 1), "reply", 1, 1);
         self.expect("P5", &worked_trip(0, 0), "8", 1, 0);
+    }
+
+    /// Packets that are full by the MTU of either router, or of none that counts; and an MTU that no sheet may have.
+    fn loops(&mut self) {
+        for (mtus, steps) in [
+            ([[576, 576], [576, 576]], 11),
+            ([[1500, 576], [1500, 1500]], 11),
+            ([[1500, 1500], [1500, 576]], 12),
+            ([[1500, 1000], [1500, 1500]], 19),
+            ([[1500, 1500], [1500, 1000]], 20),
+            ([[576, 1500], [576, 1500]], 28),
+            ([[9000, 9000], [65_535, 65_535]], 28),
+        ] {
+            let text = self.expect(&format!("loop {mtus:?}"), &loop_trip(mtus, 255), "reply", steps, steps - 1);
+            assert!(text.ends_with(" code 129\n"), "{text}");
+        }
+        self.expect("loop of 576, hops 10", &loop_trip([[576; 2]; 2], 10), "reply", 10, 10);
+        self.expect("MTU 575", &loop_trip([[576, 576], [576, 575]], 10), "21", 0, 0);
     }
 
     /// P1's input cut, while the area has all of it. One sheet is a yard, whose router's upstream nobody holds.

@@ -2,6 +2,7 @@
 
 use crate::build::{ip, Header, InterfaceEntry, RouteEntry, SheetPlan};
 use crate::rng::Rng;
+use crate::sheet::LEAST_MTU;
 use crate::walk::Start;
 use crate::worked;
 
@@ -45,6 +46,15 @@ pub fn worked_trip(upstream_of_second: u32, hops: u8) -> Trip {
         destination: worked::DESTINATION,
         ttl: 0,
     }
+}
+
+/// P2's yard as a loop, in which each router's interfaces have these MTUs.
+pub fn loop_trip(mtus: [[u16; 2]; 2], hops: u8) -> Trip {
+    let mut routers = worked::routers(ip(198, 51, 100, 1));
+    for (router, mtus) in routers.iter_mut().zip(mtus) {
+        router.interfaces.iter_mut().zip(mtus).for_each(|(interface, mtu)| interface.mtu = mtu);
+    }
+    Trip { yard: yard_of(&routers), ..worked_trip(0, hops) }
 }
 
 /// A refusal's number, and how one of the worked trips is made so.
@@ -96,9 +106,17 @@ pub const ENDINGS: [Ending; 12] = [
 impl Ending {
     /// A walk along a line of three, one of which does this.
     pub fn trip(&self, place: usize) -> Trip {
-        let mut plans: Vec<SheetPlan> = (0..3).map(|number| router(number, next(number, 3))).collect();
+        let mut plans = line_plans(3, 0);
         (self.change)(&mut plans[place]);
         Trip { yard: yard_of(&plans), ..line_trip(3, 0, 9) }
+    }
+
+    /// A walk to the end of a line, where the last router does this and an interface of it has the least MTU.
+    pub fn narrow_trip(&self, routers: usize, interface: usize) -> Trip {
+        let mut plans = line_plans(routers, 0);
+        (self.change)(&mut plans[routers - 1]);
+        plans[routers - 1].interfaces[interface].mtu = LEAST_MTU;
+        Trip { yard: yard_of(&plans), ..line_trip(routers, 0, 255) }
     }
 
     pub fn steps(&self, place: usize) -> u32 {
@@ -143,9 +161,13 @@ fn next(number: usize, routers: usize) -> u32 {
     }
 }
 
-pub fn line(routers: usize, last_upstream: u32) -> Vec<u8> {
+pub fn line_plans(routers: usize, last_upstream: u32) -> Vec<SheetPlan> {
     let upstream = |number| if number + 1 == routers { last_upstream } else { next(number, routers) };
-    (0..routers).flat_map(|number| router(number, upstream(number)).to_bytes()).collect()
+    (0..routers).map(|number| router(number, upstream(number))).collect()
+}
+
+pub fn line(routers: usize, last_upstream: u32) -> Vec<u8> {
+    yard_of(&line_plans(routers, last_upstream))
 }
 
 pub fn ring(routers: usize) -> Vec<u8> {
@@ -213,7 +235,8 @@ fn random_router(rng: &mut Rng) -> SheetPlan {
     let count = 1 + rng.below(4);
     let interfaces = (0..count).map(|_| {
         let flags = if rng.one_in(6) { rng.below(4) as u8 } else { 1 };
-        InterfaceEntry { flags, ..InterfaceEntry::new(random_address(rng), 24) }
+        let mtu = if rng.one_in(3) { rng.pick(&[LEAST_MTU, 620, 1000, 1499, u16::MAX]) } else { 1500 };
+        InterfaceEntry { flags, mtu, ..InterfaceEntry::new(random_address(rng), 24) }
     });
     let interfaces: Vec<InterfaceEntry> = interfaces.collect();
     let routes = 1 + rng.below(3);

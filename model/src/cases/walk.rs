@@ -7,10 +7,14 @@
 use super::plans::interface;
 use super::tape::{digest, Area, Tape};
 use super::trips::{
-    header, line, line_trip, random_trips, ring, router, worked_trip, yard_of, Trip, ENDINGS, REFUSALS,
+    header, line, line_plans, line_trip, loop_trip, random_trips, ring, router, worked_trip, yard_of, Trip, ENDINGS,
+    REFUSALS,
 };
 use crate::build::{ip, mend_all, standard, Header, InterfaceEntry, SheetPlan};
+use crate::engine::IP_AND_UDP;
+use crate::message::{HEADER, MOST, STANDARD};
 use crate::rng::Rng;
+use crate::sheet::{Table, LEAST_MTU};
 use crate::walk::{walk, Walked, SHEET};
 
 const TIME: u8 = 4;
@@ -19,6 +23,19 @@ const YARD: usize = 33 * 1024 + 512;
 const MESSAGE: usize = 1600;
 const OUTPUT: usize = 1600;
 const TIMES: usize = 40;
+
+/// What an interface has, whether a sheet may have it, and how an interface is made so.
+type Change = (&'static str, bool, fn(&mut InterfaceEntry));
+
+const MTUS_AND_ZEROS: [Change; 7] = [
+    ("MTU 0", false, |interface| interface.mtu = 0),
+    ("MTU 575", false, |interface| interface.mtu = 575),
+    ("MTU 576", true, |interface| interface.mtu = 576),
+    ("MTU 65535", true, |interface| interface.mtu = 65_535),
+    ("zeros 0", true, |interface| interface.zeros = 0),
+    ("zeros 1", false, |interface| interface.zeros = 1),
+    ("zeros 256", false, |interface| interface.zeros = 256),
+];
 
 pub fn tape() -> Tape {
     let mut cases = Cases {
@@ -35,11 +52,16 @@ pub fn tape() -> Tape {
     }
     cases.worked_examples();
     cases.refusals();
+    cases.mtus_and_zeros();
     cases.refusals_in_pairs();
     cases.first_drops();
     cases.lines();
     cases.rings();
     cases.ends();
+    cases.loops();
+    cases.narrow_lines();
+    cases.narrow_ends();
+    cases.wide_lines();
     cases.repeated_addresses();
     cases.random(&mut Rng::new(61));
     cases.table();
@@ -151,6 +173,31 @@ impl Cases {
         self.expect("block number 0 twice", &Trip { yard: repeated, ..base.clone() }, 21, 0);
     }
 
+    /// An MTU, or the bytes behind it, right and wrong, anywhere in a yard whose first router answers alone.
+    fn mtus_and_zeros(&mut self) {
+        for (routers, bad, interface) in [(1, 0, 0), (2, 0, 1), (2, 1, 0), (32, 0, 0), (32, 16, 1), (32, 31, 1)] {
+            for (name, valid, change) in MTUS_AND_ZEROS {
+                let mut plans = line_plans(routers, 0);
+                change(&mut plans[bad].interfaces[interface]);
+                let trip = Trip { yard: yard_of(&plans), ..line_trip(routers, 0, 1) };
+                self.one_step_or_21(&format!("{routers} routers, {bad} interface {interface} {name}"), &trip, valid);
+            }
+        }
+        for number in [17, 18, 35] {
+            for (name, valid, change) in MTUS_AND_ZEROS {
+                let mut crowded = crowded();
+                change(&mut crowded.interfaces[number]);
+                let trip = Trip { yard: yard_of(&[router(0, 0), crowded]), ..line_trip(2, 0, 1) };
+                self.one_step_or_21(&format!("36 interfaces, {number} {name}"), &trip, valid);
+            }
+        }
+    }
+
+    fn one_step_or_21(&mut self, label: &str, trip: &Trip, valid: bool) {
+        let (end, steps) = if valid { (101, 1) } else { (21, 0) };
+        self.expect(label, trip, end, steps);
+    }
+
     /// Each two refusals together: the earlier is answered.
     fn refusals_in_pairs(&mut self) {
         for (place, first) in REFUSALS.iter().enumerate() {
@@ -227,6 +274,71 @@ impl Cases {
         }
     }
 
+    /// Two routers in a loop, by their incoming interfaces' MTUs: the first step that passes its router's room ends the walk. The
+    /// interfaces that only receive have others.
+    fn loops(&mut self) {
+        let mtus = [576, 619, 620, 1000, 1499, 1500, 1504, 65_535];
+        for (first, second) in mtus.into_iter().flat_map(|first| mtus.map(|second| (first, second))) {
+            for hops in [10, 11, 12, 255] {
+                let others = if first == 576 { 65_535 } else { 576 };
+                let trip = loop_trip([[others, first], [others, second]], hops);
+                let full = (1..=hops.into()).find(|step| passes(*step, [second, first][*step % 2]));
+                let steps = full.unwrap_or(hops.into());
+                let blocks = steps - usize::from(full.is_some());
+                let expected = (101, steps as u32, blocks as u32, (HEADER + STANDARD * blocks) as u32);
+                let Walked { end, steps, blocks, length } =
+                    self.walk(&format!("loop {first} {second}, hops {hops}"), &trip);
+                assert_eq!((end, steps, blocks, length), expected);
+            }
+        }
+    }
+
+    /// One router of a line has an interface of the least MTU: where it is the incoming one, and enough blocks came, the walk ends.
+    fn narrow_lines(&mut self) {
+        for place in [0, 1, 5, 8, 9, 10, 11, 15, 26, 27, 28, 31] {
+            for (interface, name) in ["receiving", "incoming"].into_iter().enumerate() {
+                let mut plans = line_plans(32, 0);
+                plans[place].interfaces[interface].mtu = LEAST_MTU;
+                let trip = Trip { yard: yard_of(&plans), ..line_trip(32, 0, 255) };
+                let ends = name == "incoming" && passes(place + 1, LEAST_MTU);
+                let steps = if ends { place + 1 } else { 28 }.min(28);
+                self.expect(&format!("narrow {name} at {place}"), &trip, 101, steps as u32);
+            }
+        }
+    }
+
+    /// The receiving interface counts where there is no incoming one, and there alone.
+    fn narrow_ends(&mut self) {
+        for ending in &ENDINGS {
+            let link = usize::from(!["no route", "unknown incoming"].contains(&ending.name));
+            for (routers, interface) in [10, 11, 12].into_iter().flat_map(|routers| [(routers, 0), (routers, 1)]) {
+                let full = interface == link && passes(routers, LEAST_MTU);
+                let end = if full { 101 } else { ending.end };
+                let label = format!("{}, narrow {interface} at the end of {routers}", ending.name);
+                let walked = self.walk(&label, &ending.narrow_trip(routers, interface));
+                let blocks = routers - usize::from(full);
+                assert_eq!((walked.end, walked.steps, walked.blocks), (end, routers as u32, blocks as u32), "{label}");
+            }
+        }
+    }
+
+    /// Routers with as many interfaces as a yard's sheet can have beside routes; one of the last router's has the least MTU.
+    fn wide_lines(&mut self) {
+        let routers = 12;
+        for (incoming, narrow) in [(1, 1), (1, 17), (16, 16), (17, 16), (17, 17), (17, 0)] {
+            let mut plans = line_plans(routers, 0);
+            for plan in &mut plans {
+                plan.interfaces.extend((2..Table::Interfaces.full()).map(interface));
+                plan.routes[0].incoming = incoming as u16;
+            }
+            plans[routers - 1].interfaces[narrow].mtu = LEAST_MTU;
+            let trip = Trip { yard: yard_of(&plans), ..line_trip(routers, 0, 255) };
+            let walked = self.walk(&format!("18 interfaces, by {incoming}, narrow {narrow}"), &trip);
+            let blocks = routers - usize::from(incoming == narrow);
+            assert_eq!((walked.end, walked.steps, walked.blocks), (101, routers as u32, blocks as u32));
+        }
+    }
+
     /// The lowest router, then its lowest interface, holds an address.
     fn repeated_addresses(&mut self) {
         for copies in [&[1][..], &[2], &[1, 2], &[3, 1], &[0, 3], &[0, 1, 2, 3], &[4, 2]] {
@@ -245,9 +357,12 @@ impl Cases {
                 );
             }
         }
-        let crowded = SheetPlan { prohibited: false, interfaces: (0..42).map(interface).collect(), routes: Vec::new() };
-        let yard = [router(0, ip(10, 7, 41, 1)).to_bytes(), crowded.to_bytes()].concat();
-        self.expect("42 interfaces, no route", &Trip { yard, ..line_trip(2, 0, 9) }, 101, 2);
+        for last in [0, 17, 18, 34, 35] {
+            let yard = yard_of(&[router(0, ip(10, 7, last, 1)), crowded()]);
+            self.expect(&format!("36 interfaces, to {last}"), &Trip { yard, ..line_trip(2, 0, 9) }, 101, 2);
+        }
+        let yard = yard_of(&[router(0, ip(10, 7, 36, 1)), crowded()]);
+        self.expect("36 interfaces, to nobody", &Trip { yard, ..line_trip(2, 0, 9) }, 103, 1);
     }
 
     fn random(&mut self, rng: &mut Rng) {
@@ -264,4 +379,14 @@ impl Cases {
         }
         assert!([1, 21, 22, 23, 24, 101, 102, 103].into_iter().all(|end| self.ends[end] > 0));
     }
+}
+
+/// As many interfaces as a yard's sheet can have, which leave no block for routes.
+fn crowded() -> SheetPlan {
+    SheetPlan { prohibited: false, interfaces: (0..36).map(interface).collect(), routes: Vec::new() }
+}
+
+/// Whether the message of a walk, with so many blocks, passes the room of a link with this MTU.
+fn passes(blocks: usize, mtu: u16) -> bool {
+    HEADER + STANDARD * blocks > MOST.min(usize::from(mtu) - IP_AND_UDP)
 }

@@ -11,13 +11,14 @@ returns-2 : tie.Need-returns-2
 returns-2 c = search judged-message
 
 returns-3 : tie.Need-returns-3
-returns-3 c = search judged-routed
+returns-3 c =
+    let checked = c .before .before .before .before .before in
+    search (judged-routed, checked .check .ensures, c .routed .ensures)
 
 pub judge-spec : {M : Type 1} → statement M
 judge-spec =
     tie.close
     (tie.spec
-    (λ c κs. search needs)
     (λ c κs. search needs)
     (λ c κs. search needs)
     returns

@@ -1,4 +1,5 @@
 -- `incoming_for`: by the route chosen, as the definition goes.
+use Rattle.sheet.proofs.Laws.{interface-few, place-within, interface-told}
 use Rattle.engine.proofs.Rows.{incoming-unknown, incoming-there, incoming-known, incoming-none}
 use borrow.Author.Needs.{needs}
 use Rattle.engine.proofs.incoming_for.Statement.{statement}
@@ -7,11 +8,16 @@ use Rattle.engine.proofs.incoming_for.Tie as tie
 returns : tie.Need-returns
 returns c = search incoming-unknown
 
-interface-requires : tie.Need-interface-requires
-interface-requires c κs = search incoming-there
+interface-place-requires : tie.Need-interface-place-requires
+interface-place-requires c κs =
+    let start = c .before .before .before .before .before .before .before in
+    (start .pre .0, interface-few (start .args .f) (start .args .sheet .now) _ (search (incoming-there, start .pre .1)))
+
+interface-at-requires : tie.Need-interface-at-requires
+interface-at-requires c κs = search (place-within, incoming-there)
 
 returns-2 : tie.Need-returns-2
-returns-2 c = search incoming-known
+returns-2 c = search (incoming-known, interface-told)
 
 returns-3 : tie.Need-returns-3
 returns-3 c = search incoming-none
@@ -23,7 +29,8 @@ incoming-for-spec =
     (λ c. search needs)
     returns
     (λ c. search needs)
-    interface-requires
+    interface-place-requires
+    interface-at-requires
     (λ c. search needs)
     returns-2
     returns-3)

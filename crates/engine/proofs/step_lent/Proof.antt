@@ -1,30 +1,20 @@
--- `step_lent`: the verdict's number, or the answer to what it found.
-use Rattle.engine.proofs.Steps.{lent-list, step-dropped, lent-ready, step-answered}
+-- `step_lent`: the step by sizes, with those of IPv4.
+use Rattle.format.specs.Sizes.{ipv4-sound}
+use Rattle.response.proofs.Laws.{ipv4-writes}
 use borrow.Author.Needs.{needs}
 use Rattle.engine.proofs.step_lent.Statement.{statement}
 use Rattle.engine.proofs.step_lent.Tie as tie
 
-judge-requires : tie.Need-judge-requires
-judge-requires c κs = search lent-list
-
-returns : tie.Need-returns
-returns c = search step-dropped
-
-answer-requires : tie.Need-answer-requires
-answer-requires c κs = search lent-ready
-
-returns-2 : tie.Need-returns-2
-returns-2 c = search step-answered
+step-by-requires : tie.Need-step-by-requires
+step-by-requires c κs = (ipv4-sound, (ipv4-writes, (search needs, search needs)))
 
 pub step-lent-spec : {M : Type 1} → statement M
 step-lent-spec =
     tie.close
     (tie.spec
-    judge-requires
-    (λ c. search needs)
-    returns
-    answer-requires
+    (λ c κs. search needs)
+    step-by-requires
     (λ c. search needs)
     (λ c. search needs)
     (λ c. search needs)
-    returns-2)
+    (λ c. search needs))

@@ -2,13 +2,14 @@
 use mathlib.Core.Path.{_∙_}
 use native.Mathlib.Omega.{arith}
 use lib.ListN.{length-set}
+use Rattle.response.proofs.Laws.{block-length}
 use Rattle.engine.proofs.Writes.{longer-written}
 use borrow.Author.Needs.{needs}
 use Rattle.engine.proofs.write_longer.Statement.{statement}
 use Rattle.engine.proofs.write_longer.Tie as tie
 
 copy-to-requires-2 : tie.Need-copy-to-requires-2
-copy-to-requires-2 c κs = simp length-set (omega arith)
+copy-to-requires-2 c κs = simp length-set (omega (arith, block-length (c .before .before .before .before .before .before .before .before .before .args .block)))
 
 same-length : tie.Need-same-length
 same-length c =

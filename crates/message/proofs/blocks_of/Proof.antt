@@ -12,11 +12,11 @@ use Rattle.message.proofs.blocks_of.Statement.{statement}
 use Rattle.message.proofs.blocks_of.Tie as tie
 
 abbrev Inv-loop : tie.InvT-loop
-Inv-loop s at₀ count₀ last₀ at count last =
-    (at ≤ length s) × (count ≤ at) × (blocksSeen s ≡ joined at count last (blocksFrom at (drop at s)))
+Inv-loop f s at₀ count₀ last₀ at count last =
+    (at ≤ length s) × (count ≤ at) × (blocksSeen f s ≡ joined at count last (blocksFrom f at (drop at s)))
 
 abbrev μ-loop : tie.MeasureT-loop
-μ-loop s at₀ count₀ last₀ at count last = length s - at
+μ-loop f s at₀ count₀ last₀ at count last = length s - at
 
 loop-holds : tie.Need-loop-holds Inv-loop μ-loop
 loop-holds c = (search needs, search needs, search at-first)
@@ -33,7 +33,7 @@ returns c = search stopped
 add-at-2 : tie.Need-add-at-2 Inv-loop μ-loop
 add-at-2 c =
     let b = c .before .before in
-    let inside = augmented-inside _ _ _ (b .before .standard-at .ensures) (b .if1 .left) _ (c .before .augmented-at .ensures) (c .if2 .left) in
+    let inside = augmented-inside (b .before .before .before .before .pre .0) _ _ _ (b .before .standard-at .ensures) (b .if1 .left) _ (c .before .augmented-at .ensures) (c .if2 .left) in
     omega (arith, inside (b .before .before .loop .inv .0))
 
 loop-less-2 : tie.Need-loop-less-2 Inv-loop μ-loop

@@ -18,7 +18,7 @@ returns-3 c = search row-header
 
 right-form-requires : tie.Need-right-form-requires
 unfolding blocksSeen
-right-form-requires c κs = (search needs, ap (λ (b : Blocks). b .end) (c .blocks-of .ensures))
+right-form-requires c κs = (search needs, (search needs, ap (λ (b : Blocks). b .end) (c .blocks-of .ensures)))
 
 returns-4 : tie.Need-returns-4
 returns-4 c = search row-blocks

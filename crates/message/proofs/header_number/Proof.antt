@@ -9,7 +9,7 @@ returns : tie.Need-returns
 unfolding headerRows byFirst
 returns c =
     let size = c .before .before .before in
-    let hops = size .before .before in
+    let hops = size .before .before .before in
     let group = hops .before .before in
     let source = group .before .before in
     let pair = source .before .before in
@@ -44,6 +44,7 @@ header-number-spec =
     (λ c κs. search needs)
     (λ c κs. search needs)
     (λ c κs. search needs)
+    (λ c. search needs)
     (λ c κs. search needs)
     (λ c κs. search needs)
     returns)

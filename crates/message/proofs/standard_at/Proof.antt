@@ -12,4 +12,4 @@ returns-2 c = search standard-read
 
 pub standard-at-spec : {M : Type 1} → statement M
 standard-at-spec =
-    tie.close (tie.spec (λ c. search needs) returns (λ c. search needs) (λ c. search needs) (λ c κs. search needs) returns-2)
+    tie.close (tie.spec (λ c. search needs) returns (λ c. search needs) (λ c. search needs) (λ c κs. search needs) (λ c. search needs) returns-2)

@@ -3,6 +3,7 @@ use mathlib.Core.Path.{ap}
 use Rattle.message.specs.declared.Blocks.{Blocks}
 use Rattle.message.specs.Inside.{blocksSeen}
 use Rattle.reply.proofs.Rows.{row-short, row-long, row-kind, row-header, row-blocks, row-none}
+use Rattle.format.specs.Sizes.{ipv4-sound}
 use borrow.Author.Needs.{needs}
 use Rattle.reply.proofs.check.Statement.{statement}
 use Rattle.reply.proofs.check.Tie as tie
@@ -21,7 +22,7 @@ returns-4 c = search row-header
 
 right-form-requires : tie.Need-right-form-requires
 unfolding blocksSeen
-right-form-requires c κs = (search needs, ap (λ (b : Blocks). b .end) (c .blocks-of .ensures))
+right-form-requires c κs = (ipv4-sound, (search needs, ap (λ (b : Blocks). b .end) (c .blocks-of .ensures)))
 
 returns-5 : tie.Need-returns-5
 returns-5 c = search row-none

@@ -10,9 +10,10 @@ use Rattle.reply.proofs.Search.{past-end, found-none, found-here, goes-
 use borrow.Author.Needs.{needs}
 use Rattle.reply.proofs.next_at.Statement.{statement}
 use Rattle.reply.proofs.next_at.Tie as tie
+use Rattle.format.specs.Sizes.{ipv4, ipv4-sound}
 
 abbrev Inv-loop : tie.InvT-loop
-Inv-loop s place at₀ at = (at ≤ length s) × (standardsFrom s place ≡ standardsFrom s at)
+Inv-loop s place at₀ at = (at ≤ length s) × (standardsFrom ipv4 s place ≡ standardsFrom ipv4 s at)
 
 abbrev μ-loop : tie.MeasureT-loop
 μ-loop s place at₀ at = length s - at
@@ -30,13 +31,13 @@ returns-3 : tie.Need-returns-3 Inv-loop μ-loop
 returns-3 c = search found-here
 
 add-at : tie.Need-add-at Inv-loop μ-loop
-add-at c = let b = c .before in omega (arith, size-inside _ _ _ (b .before .before .before .before .block-at .ensures) (b .before .before .if2 .left) (b .before .before .before .before .before .loop .inv .0))
+add-at c = let b = c .before in omega (arith, size-inside ipv4-sound _ _ _ (b .before .before .before .before .block-at .ensures) (b .before .before .if2 .left) (b .before .before .before .before .before .loop .inv .0))
 
 loop-less : tie.Need-loop-less Inv-loop μ-loop
-loop-less c = search moves-on
+loop-less c = search (moves-on, ipv4-sound)
 
 loop-again : tie.Need-loop-again Inv-loop μ-loop
-loop-again c = (search size-inside, search goes-on)
+loop-again c = (search (size-inside, ipv4-sound), search goes-on)
 
 pub next-at-spec : {M : Type 1} → statement M
 next-at-spec =

@@ -3,21 +3,31 @@ use Prim.Native.Nat.{_+_, _-_, _≤_}
 use mathlib.Core.Path.{_≡_}
 use native.Mathlib.Omega.{arith}
 use Rattle.route.specs.Inside.{ranksIn, bestOf}
-use Rattle.route.proofs.Turns.{beside-kept, best-start, best-more, best-end}
+use Rattle.route.proofs.Turns.{beside-within, beside-kept, best-start, best-more, best-end}
 use Rattle.route.proofs.best_in.Statement.{statement}
 use Rattle.route.proofs.best_in.Tie as tie
 
 abbrev Inv-loop : tie.InvT-loop
-Inv-loop s at first count source group b₀ j₀ b j = (j ≤ count) × (b ≡ bestOf (ranksIn s source group) (first + j))
+Inv-loop f s at first count source group b₀ j₀ b j = (j ≤ count) × (b ≡ bestOf (ranksIn f s source group) (first + j))
 
 abbrev μ-loop : tie.MeasureT-loop
-μ-loop s at first count source group b₀ j₀ b j = count - j
+μ-loop f s at first count source group b₀ j₀ b j = count - j
 
 loop-holds : tie.Need-loop-holds Inv-loop μ-loop
 loop-holds c = (omega arith, search best-start)
 
+mul-best-with : tie.Need-mul-best-with Inv-loop μ-loop
+mul-best-with c =
+    let start = c .before .before .before .before in
+    omega (arith, beside-within _ _ _ _ (start .pre .1 .0) (start .pre .0) _ (c .before .loop-test .taken))
+
+add-best-with : tie.Need-add-best-with Inv-loop μ-loop
+add-best-with c =
+    let start = c .before .before .before .before in
+    omega (arith, beside-within _ _ _ _ (start .pre .1 .0) (start .pre .0) _ (c .before .loop-test .taken))
+
 best-with-requires : tie.Need-best-with-requires Inv-loop μ-loop
-best-with-requires c κs = (omega arith, search beside-kept)
+best-with-requires c κs = (search beside-within, search beside-kept)
 
 loop-again : tie.Need-loop-again Inv-loop μ-loop
 loop-again c = (omega arith, search best-more)
@@ -32,8 +42,8 @@ best-in-spec =
     Inv-loop
     μ-loop
     loop-holds
-    (λ c. omega arith)
-    (λ c. omega arith)
+    mul-best-with
+    add-best-with
     (λ c. omega arith)
     best-with-requires
     (λ c. omega arith)

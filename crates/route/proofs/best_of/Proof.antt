@@ -2,17 +2,17 @@
 use Prim.Native.Nat.{_≤_, _-_}
 use mathlib.Core.Path.{_≡_, refl}
 use native.Mathlib.Omega.{arith}
-use Rattle.sheet.proofs.Laws.{route-placed, routes-beside}
+use Rattle.sheet.proofs.Laws.{route-placed, routes-beside, beside-some}
 use Rattle.route.specs.Inside.{ranksIn, bestOf}
 use Rattle.route.proofs.Turns.{best-all}
 use Rattle.route.proofs.best_of.Statement.{statement}
 use Rattle.route.proofs.best_of.Tie as tie
 
 abbrev Inv-loop : tie.InvT-loop
-Inv-loop s l source group b₀ k₀ b k = (k ≤ l .routes) × (b ≡ bestOf (ranksIn s source group) k)
+Inv-loop f s l source group b₀ k₀ b k = (k ≤ l .routes) × (b ≡ bestOf (ranksIn f s source group) k)
 
 abbrev μ-loop : tie.MeasureT-loop
-μ-loop s l source group b₀ k₀ b k = l .routes - k
+μ-loop f s l source group b₀ k₀ b k = l .routes - k
 
 loop-holds : tie.Need-loop-holds Inv-loop μ-loop
 unfolding bestOf
@@ -22,7 +22,12 @@ route-place-requires : tie.Need-route-place-requires Inv-loop μ-loop
 route-place-requires c κs = search route-placed
 
 best-in-requires : tie.Need-best-in-requires Inv-loop μ-loop
-best-in-requires c κs = (search routes-beside, search)
+best-in-requires c κs = (search, (search routes-beside, search))
+
+loop-less : tie.Need-loop-less Inv-loop μ-loop
+loop-less c =
+    let there = c .before .before .before in
+    omega (arith, beside-some (there .before .before .before .before .pre .0) _ _ (there .if1 .taken))
 
 loop-again : tie.Need-loop-again Inv-loop μ-loop
 loop-again c = (omega arith, search)
@@ -41,6 +46,6 @@ best-of-spec =
     route-place-requires
     best-in-requires
     (λ c. omega arith)
-    (λ c. omega arith)
+    loop-less
     loop-again
     returns)

@@ -10,10 +10,10 @@ use Rattle.route.proofs.some_reaches.Statement.{statement}
 use Rattle.route.proofs.some_reaches.Tie as tie
 
 abbrev Inv-loop : tie.InvT-loop
-Inv-loop s l r client k₀ k = (k ≤ l .interfaces) × (someReaches (interfaceOf s) r client k ≡ false)
+Inv-loop f s l r client k₀ k = (k ≤ l .interfaces) × (someReaches (interfaceOf f s) r client k ≡ false)
 
 abbrev μ-loop : tie.MeasureT-loop
-μ-loop s l r client k₀ k = l .interfaces - k
+μ-loop f s l r client k₀ k = l .interfaces - k
 
 loop-holds : tie.Need-loop-holds Inv-loop μ-loop
 unfolding someReaches

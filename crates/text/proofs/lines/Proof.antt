@@ -8,6 +8,7 @@ use Rattle.message.proofs.Laws.{size-inside, moves-on}
 use Rattle.text.proofs.Passed.{SoFar, no-lines, none-yet, all-lines, line-fits, one-passed}
 use Rattle.text.proofs.lines.Statement.{statement}
 use Rattle.text.proofs.lines.Tie as tie
+use Rattle.format.specs.Sizes.{ipv4-sound}
 
 abbrev Inv-loop : tie.InvT-loop
 Inv-loop m text₀ from at₀ count₀ next₀ text at count next =
@@ -34,7 +35,7 @@ returns-2 c = search all-lines
 add-end : tie.Need-add-end Inv-loop μ-loop
 add-end c =
     let b = c .before .before .before .before in
-    omega (arith, size-inside _ _ _ (b .block-at .ensures) (c .before .before .if2 .left) (b .before .loop .inv .1 .inside))
+    omega (arith, size-inside ipv4-sound _ _ _ (b .block-at .ensures) (c .before .before .if2 .left) (b .before .loop .inv .1 .inside))
 
 add-block-line : tie.Need-add-block-line Inv-loop μ-loop
 add-block-line c =
@@ -48,7 +49,7 @@ part-block-line-start : tie.Need-part-block-line-start Inv-loop μ-loop
 part-block-line-start c = omega arith
 
 part-block-line-end : tie.Need-part-block-line-end Inv-loop μ-loop
-part-block-line-end c = search size-inside
+part-block-line-end c = search (size-inside, ipv4-sound)
 
 block-line-requires : tie.Need-block-line-requires Inv-loop μ-loop
 block-line-requires c κs e =
@@ -64,7 +65,7 @@ add-either c =
     omega (arith, i .passed, i .inside)
 
 loop-less : tie.Need-loop-less Inv-loop μ-loop
-loop-less c = search moves-on
+loop-less c = search (moves-on, ipv4-sound)
 
 loop-again : tie.Need-loop-again Inv-loop μ-loop
 loop-again c = (search needs, search one-passed)

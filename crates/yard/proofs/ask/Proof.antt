@@ -2,6 +2,8 @@
 use Rattle.recent.specs.Entries.{empty}
 use Rattle.yard.proofs.Calls.{lent-right, called}
 use borrow.Author.Needs.{needs}
+use Rattle.format.specs.Sizes.{ipv4-sound}
+use Rattle.response.proofs.Laws.{ipv4-writes}
 use Rattle.yard.proofs.ask.Statement.{statement}
 use Rattle.yard.proofs.ask.Tie as tie
 
@@ -11,7 +13,7 @@ step-lent-requires c κs = search (lent-right, needs)
 
 returns : tie.Need-returns
 unfolding empty
-returns c = search called
+returns c = search (called, ipv4-sound, ipv4-writes)
 
 pub ask-spec : {M : Type 1} → statement M
 ask-spec =

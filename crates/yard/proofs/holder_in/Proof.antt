@@ -1,5 +1,6 @@
 -- `holder_in`: the whole search is the search from router i on.
 use borrow.Author.Needs.{needs}
+use Rattle.format.specs.Sizes.{ipv4, ipv4-sound}
 use Prim.Native.Nat.{_≤_, _-_}
 use mathlib.Core.Path.{_≡_}
 use native.Mathlib.Omega.{arith}
@@ -9,7 +10,7 @@ use Rattle.yard.proofs.holder_in.Statement.{statement}
 use Rattle.yard.proofs.holder_in.Tie as tie
 
 abbrev Inv-loop : tie.InvT-loop
-Inv-loop yard counts n address i₀ i = (i ≤ n) × (holderIn yard address ≡ lowestFrom yard address i (n - i))
+Inv-loop yard counts n address i₀ i = (i ≤ n) × (holderIn ipv4 yard address ≡ lowestFrom ipv4 yard address i (n - i))
 
 abbrev μ-loop : tie.MeasureT-loop
 μ-loop yard counts n address i₀ i = n - i
@@ -18,7 +19,7 @@ loop-holds : tie.Need-loop-holds Inv-loop μ-loop
 loop-holds c = (omega arith, search search-start)
 
 holder-requires : tie.Need-holder-requires Inv-loop μ-loop
-holder-requires c κs = search count-told
+holder-requires c κs = (ipv4-sound, search count-told)
 
 returns : tie.Need-returns Inv-loop μ-loop
 returns c = search search-found

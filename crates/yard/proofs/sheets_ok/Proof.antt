@@ -1,5 +1,6 @@
 -- `sheets_ok`: after i turns the first i sheets are right, and their interfaces are counted.
 use borrow.Author.Needs.{needs}
+use Rattle.format.specs.Sizes.{ipv4}
 use Prim.Native.Nat.{ℕ, _≤_, _-_}
 use mathlib.Core.Bool.{true}
 use mathlib.Core.Path.{_≡_, refl}
@@ -13,7 +14,7 @@ use Rattle.yard.proofs.sheets_ok.Statement.{statement}
 use Rattle.yard.proofs.sheets_ok.Tie as tie
 
 abbrev Inv-loop : tie.InvT-loop
-Inv-loop yard n counts₀ i₀ counts i = (i ≤ n) × (length counts ≡ length counts₀) × (true ≡ every (validAt yard) i) × Counted yard counts i
+Inv-loop yard n counts₀ i₀ counts i = (i ≤ n) × (length counts ≡ length counts₀) × (true ≡ every (validAt ipv4 yard) i) × Counted ipv4 yard counts i
 
 abbrev μ-loop : tie.MeasureT-loop
 μ-loop yard n counts₀ i₀ counts i = n - i

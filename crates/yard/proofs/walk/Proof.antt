@@ -1,6 +1,7 @@
 -- `walk`: the tests are the rows' in their order, so that each refusal is that of the first row that applies.
 use borrow.Author.Needs.{needs}
 use native.Mathlib.Omega.{arith}
+use Rattle.format.specs.Sizes.{ipv4}
 use Rattle.rows.specs.Rows.{byFirst}
 use Rattle.rows.proofs.Laws.{first}
 use Rattle.yard.specs.Walk.{walkRows, walkOf}
@@ -32,7 +33,7 @@ go-requires : tie.Need-go-requires
 go-requires c κs =
     let passed = c .before .before .before .before in
     let checked = passed .before .before .before .before in
-    (walk-ready _ _ _ _ (checked .yard-ok .result) (checked .yard-ok .ensures) (passed .before .before .if2 .left) (passed .before .if3 .left) (passed .if4 .left), omega arith)
+    (walk-ready ipv4 _ _ _ _ (checked .yard-ok .result) (checked .yard-ok .ensures) (passed .before .before .if2 .left) (passed .before .if3 .left) (passed .if4 .left), omega arith)
 
 returns-6 : tie.Need-returns-6
 unfolding walkOf walkRows byFirst

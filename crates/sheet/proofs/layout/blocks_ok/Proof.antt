@@ -11,10 +11,10 @@ use Rattle.sheet.proofs.layout.blocks_ok.Statement.{statement}
 use Rattle.sheet.proofs.layout.blocks_ok.Tie as tie
 
 abbrev Inv-loop : tie.InvT-loop
-Inv-loop s m interfaces n k₀ k = (k ≤ n) × (true ≡ every (blockOkWith s m interfaces) k)
+Inv-loop f s m interfaces n k₀ k = (k ≤ n) × (true ≡ every (blockOkWith f s m interfaces) k)
 
 abbrev μ-loop : tie.MeasureT-loop
-μ-loop s m interfaces n k₀ k = n - k
+μ-loop f s m interfaces n k₀ k = n - k
 
 loop-holds : tie.Need-loop-holds Inv-loop μ-loop
 unfolding every

@@ -1,6 +1,5 @@
 -- `interface_block_ok`: the rules of the definition, each by its own function; the frame comes first, since it bounds the entries.
 use borrow.Author.Needs.{needs}
-use Rattle.entry.specs.Interface.{interfaceSize}
 use Rattle.sheet.proofs.Counts.{used-fits, no-frame, by-frame}
 use Rattle.sheet.proofs.rules.interface_block_ok.Statement.{statement}
 use Rattle.sheet.proofs.rules.interface_block_ok.Tie as tie
@@ -9,7 +8,7 @@ returns : tie.Need-returns
 returns c = search no-frame
 
 interfaces-ok-requires : tie.Need-interfaces-ok-requires
-interfaces-ok-requires c κs = search (used-fits interfaceSize, needs)
+interfaces-ok-requires c κs = search (used-fits, needs)
 
 returns-2 : tie.Need-returns-2
 returns-2 c = search by-frame

@@ -5,20 +5,35 @@ use mathlib.Core.Path.{_≡_, refl}
 use native.Mathlib.Omega.{arith}
 use Rattle.sheet.specs.Every.{every}
 use Rattle.sheet.specs.Rules.{interfaceRight, entriesOk}
-use Rattle.entry.specs.Interface.{interfaceSize}
+use Rattle.sheet.proofs.Counts.{interface-within}
 use Rattle.sheet.proofs.Numbered.{every-next, every-stops, every-all}
 use Rattle.sheet.proofs.rules.interfaces_ok.Statement.{statement}
 use Rattle.sheet.proofs.rules.interfaces_ok.Tie as tie
 
 abbrev Inv-loop : tie.InvT-loop
-Inv-loop b used j₀ j = (j ≤ used) × (true ≡ entriesOk interfaceSize interfaceRight b j)
+Inv-loop f b used j₀ j = (j ≤ used) × (true ≡ entriesOk (f .interface) (interfaceRight f) b j)
 
 abbrev μ-loop : tie.MeasureT-loop
-μ-loop b used j₀ j = used - j
+μ-loop f b used j₀ j = used - j
 
 loop-holds : tie.Need-loop-holds Inv-loop μ-loop
 unfolding every
 loop-holds c = (omega arith, refl)
+
+mul-interface-ok : tie.Need-mul-interface-ok Inv-loop μ-loop
+mul-interface-ok c =
+    let start = c .before .before .before .before in
+    omega (arith, interface-within (start .pre .0) _ _ (c .before .loop-test .taken) (start .pre .1 .1))
+
+add-interface-ok : tie.Need-add-interface-ok Inv-loop μ-loop
+add-interface-ok c =
+    let start = c .before .before .before .before in
+    omega (arith, interface-within (start .pre .0) _ _ (c .before .loop-test .taken) (start .pre .1 .1))
+
+interface-ok-requires : tie.Need-interface-ok-requires Inv-loop μ-loop
+interface-ok-requires c κs =
+    let start = c .before .before .before .before in
+    omega (arith, interface-within (start .pre .0) _ _ (c .before .loop-test .taken) (start .pre .1 .1))
 
 returns : tie.Need-returns Inv-loop μ-loop
 returns c = search every-stops
@@ -36,9 +51,9 @@ interfaces-ok-spec =
     Inv-loop
     μ-loop
     loop-holds
-    (λ c. omega arith)
-    (λ c. omega arith)
-    (λ c κs. omega arith)
+    mul-interface-ok
+    add-interface-ok
+    interface-ok-requires
     returns
     (λ c. omega arith)
     (λ c. omega arith)

@@ -1,6 +1,5 @@
 -- `route_block_ok`: the rules of the definition, each by its own function; the frame comes first, since it bounds the entries.
 use borrow.Author.Needs.{needs}
-use Rattle.entry.specs.Route.{routeSize}
 use Rattle.sheet.proofs.Counts.{used-fits, no-frame, by-frame}
 use Rattle.sheet.proofs.rules.route_block_ok.Statement.{statement}
 use Rattle.sheet.proofs.rules.route_block_ok.Tie as tie
@@ -9,7 +8,7 @@ returns : tie.Need-returns
 returns c = search no-frame
 
 routes-ok-requires : tie.Need-routes-ok-requires
-routes-ok-requires c κs = search (used-fits routeSize, needs)
+routes-ok-requires c κs = search (used-fits, needs)
 
 returns-2 : tie.Need-returns-2
 returns-2 c = search by-frame

@@ -6,20 +6,35 @@ use native.Mathlib.Omega.{arith}
 use borrow.Author.Needs.{needs}
 use Rattle.sheet.specs.Every.{every}
 use Rattle.sheet.specs.Rules.{routeRight, entriesOk}
-use Rattle.entry.specs.Route.{routeSize}
+use Rattle.sheet.proofs.Counts.{route-entry-within}
 use Rattle.sheet.proofs.Numbered.{every-next, every-stops, every-all}
 use Rattle.sheet.proofs.rules.routes_ok.Statement.{statement}
 use Rattle.sheet.proofs.rules.routes_ok.Tie as tie
 
 abbrev Inv-loop : tie.InvT-loop
-Inv-loop b used interfaces outside j₀ j = (j ≤ used) × (true ≡ entriesOk routeSize (routeRight interfaces) b j)
+Inv-loop f b used interfaces outside j₀ j = (j ≤ used) × (true ≡ entriesOk (f .route) (routeRight interfaces) b j)
 
 abbrev μ-loop : tie.MeasureT-loop
-μ-loop b used interfaces outside j₀ j = used - j
+μ-loop f b used interfaces outside j₀ j = used - j
 
 loop-holds : tie.Need-loop-holds Inv-loop μ-loop
 unfolding every
 loop-holds c = (omega arith, refl)
+
+mul-route-ok : tie.Need-mul-route-ok Inv-loop μ-loop
+mul-route-ok c =
+    let start = c .before .before .before .before .before in
+    omega (arith, route-entry-within (start .pre .0) _ _ (c .before .loop-test .taken) (start .pre .1 .1))
+
+add-route-ok : tie.Need-add-route-ok Inv-loop μ-loop
+add-route-ok c =
+    let start = c .before .before .before .before .before in
+    omega (arith, route-entry-within (start .pre .0) _ _ (c .before .loop-test .taken) (start .pre .1 .1))
+
+route-ok-requires : tie.Need-route-ok-requires Inv-loop μ-loop
+route-ok-requires c κs =
+    let start = c .before .before .before .before .before in
+    (omega (arith, route-entry-within (start .pre .0) _ _ (c .before .loop-test .taken) (start .pre .1 .1)), search needs, search needs)
 
 returns : tie.Need-returns Inv-loop μ-loop
 returns c = search every-stops
@@ -38,9 +53,9 @@ routes-ok-spec =
     μ-loop
     (λ c κs. search needs)
     loop-holds
-    (λ c. omega arith)
-    (λ c. omega arith)
-    (λ c κs. search needs)
+    mul-route-ok
+    add-route-ok
+    route-ok-requires
     returns
     (λ c. omega arith)
     (λ c. omega arith)

@@ -9,10 +9,10 @@ use Rattle.sheet.proofs.tables.holder.Statement.{statement}
 use Rattle.sheet.proofs.tables.holder.Tie as tie
 
 abbrev Inv-loop : tie.InvT-loop
-Inv-loop s interfaces address i₀ i = (i ≤ interfaces) × (holderOf s address ≡ searched s address i (interfaces - i))
+Inv-loop f s interfaces address i₀ i = (i ≤ interfaces) × (holderOf f s address ≡ searched f s address i (interfaces - i))
 
 abbrev μ-loop : tie.MeasureT-loop
-μ-loop s interfaces address i₀ i = interfaces - i
+μ-loop f s interfaces address i₀ i = interfaces - i
 
 loop-holds : tie.Need-loop-holds Inv-loop μ-loop
 loop-holds c = (omega arith, search search-start)

@@ -1,6 +1,0 @@
--- Laws that the crates above cite; and `Determined`: each promise leaves one answer.
-mod Masks
-mod Prefixes
-mod Rules
-pub mod Laws
-pub mod Determined

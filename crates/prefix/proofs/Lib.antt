@@ -1,0 +1,4 @@
+-- `Determined`: each promise leaves one answer.
+mod Shifts
+mod Prefixes
+pub mod Determined

@@ -1,0 +1,2 @@
+-- Prefixes of addresses (document 01, "Sheet").
+pub mod Prefix

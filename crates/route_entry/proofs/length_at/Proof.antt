@@ -1,0 +1,12 @@
+-- `length_at`: the field of the record.
+use Rattle.route_entry.specs.Route.{routeAt}
+use borrow.Author.Needs.{needs}
+use Rattle.route_entry.proofs.length_at.Statement.{statement}
+use Rattle.route_entry.proofs.length_at.Tie as tie
+
+returns : tie.Need-returns
+unfolding routeAt
+returns c = search
+
+pub length-at-spec : {M : Type 1} → statement M
+length-at-spec = tie.close (tie.spec (λ c. search needs) (λ c. search needs) returns)
