@@ -7,7 +7,8 @@
 PREFIX ?= /usr/local
 prefix = $(abspath $(PREFIX))
 DESTDIR ?=
-VERSION = 0.1.0
+# The second number rises where a host must be changed with the library: 2, interface entries of 28 bytes (M-102).
+VERSION = 0.2.0
 CFLAGS ?= -O2
 WARN = -std=c11 -Wall -Wextra -Wpedantic
 packages = gcc and libc6-dev

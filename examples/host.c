@@ -2,10 +2,11 @@
  *
  *     host [-p PORT] [-n PACKETS] SHEET
  *
- * Reads the router's tables from the file SHEET, matches their interfaces to the kernel's by address, and
- * answers what comes in on PORT (33435). Counts each drop number, and prints the counts on SIGINT or
- * SIGTERM, or after PACKETS datagrams. SIGHUP reads SHEET anew. While the machine's time is out of range it
- * answers nothing, and it ends when its clock has issued the last time there is.
+ * Reads the router's tables from the file SHEET, matches their interfaces to the kernel's by address, warns
+ * where an MTU of the sheet is larger than the kernel's, and answers what comes in on PORT (33435). Counts each
+ * drop number, and prints the counts on SIGINT or SIGTERM, or after PACKETS datagrams. SIGHUP reads SHEET anew.
+ * While the machine's time is out of range it answers nothing, and it ends when its clock has issued the last
+ * time there is.
  * Exit status: 0 ended as asked, 1 anything that it could not do, 2 bad arguments. */
 #define _GNU_SOURCE
 #include <arpa/inet.h>
@@ -19,6 +20,7 @@
 #include <stdio.h>
 #include <stdlib.h>
 #include <string.h>
+#include <sys/ioctl.h>
 #include <sys/socket.h>
 #include <time.h>
 #include <unistd.h>
@@ -31,6 +33,7 @@
 /* An interface of the sheet, and the kernel's index for it. */
 struct interface {
     uint32_t address;
+    uint16_t mtu;
     uint8_t prefix;
     bool multicast;
     unsigned index;
@@ -104,14 +107,15 @@ static void read_interfaces(struct router *router)
     router->count = 0;
     for (size_t b = 0; b < router->sheet_len / BOUGH_SHEET_BLOCK; b++) {
         const uint8_t *block = router->sheet + b * BOUGH_SHEET_BLOCK;
-        if (block[0] != BOUGH_SHEET_INTERFACES)
+        if (block[BOUGH_SHEET_KIND] != BOUGH_SHEET_INTERFACES)
             break;
-        for (size_t j = 0; j < block[1]; j++) {
+        for (size_t j = 0; j < block[BOUGH_SHEET_USED]; j++) {
             const uint8_t *entry = block + BOUGH_SHEET_ENTRIES + j * BOUGH_INTERFACE_SIZE;
             router->interfaces[router->count++] = (struct interface){
-                .address = get32(entry),
-                .prefix = entry[4],
-                .multicast = entry[5] & BOUGH_INTERFACE_MULTICAST,
+                .address = get32(entry + BOUGH_INTERFACE_AT_ADDRESS),
+                .mtu = get16(entry + BOUGH_INTERFACE_AT_MTU),
+                .prefix = entry[BOUGH_INTERFACE_AT_LENGTH],
+                .multicast = entry[BOUGH_INTERFACE_AT_FLAGS] & BOUGH_INTERFACE_MULTICAST,
             };
         }
     }
@@ -146,6 +150,35 @@ static bool match_interfaces(struct router *router)
     return true;
 }
 
+/* Warns where the sheet tells of more room than the kernel has on an interface. `s`: any socket. */
+static bool compare_mtu(int s, size_t number, const struct interface *here)
+{
+    struct ifreq kernel = {0};
+    if (if_indextoname(here->index, kernel.ifr_name) == NULL || ioctl(s, SIOCGIFMTU, &kernel) != 0)
+        return false;
+    if (here->mtu > kernel.ifr_mtu) {
+        char text[INET_ADDRSTRLEN];
+        fprintf(stderr,
+                "host: the MTU of %s (interface %zu of the sheet) is %u in the sheet and %d in the kernel: "
+                "what is longer is not sent on\n",
+                dotted(here->address, text), number, here->mtu, kernel.ifr_mtu);
+    }
+    return true;
+}
+
+static bool compare_mtus(const struct router *router)
+{
+    int s = socket(AF_INET, SOCK_DGRAM | SOCK_CLOEXEC, 0);
+    bool compared = s >= 0;
+    for (size_t i = 0; compared && i < router->count; i++)
+        compared = compare_mtu(s, i, &router->interfaces[i]);
+    if (!compared)
+        perror("host: the MTUs of the machine's interfaces");
+    if (s >= 0)
+        close(s);
+    return compared;
+}
+
 static bool read_sheet(const char *name, struct router *router)
 {
     FILE *file = fopen(name, "rb");
@@ -162,7 +195,7 @@ static bool read_sheet(const char *name, struct router *router)
         return false;
     }
     read_interfaces(router);
-    return match_interfaces(router);
+    return match_interfaces(router) && compare_mtus(router);
 }
 
 /* The number in the sheet of the interface that a datagram came in on: with several addresses on it, the one
@@ -251,7 +284,16 @@ static bool receive(const struct host *host, uint8_t *payload, size_t room, stru
     return true;
 }
 
-/* Sends what a record says: a Request with TTL 255 by its interface, a Reply by whichever leads to the client. */
+/* Says of the next datagram whether it may be sent in fragments. A Request may not (RFC 8487, 3): one that is too long is
+ * refused here, EMSGSIZE, and does not get lost on the way. A Reply may, here and on the way: it has to come home by whatever
+ * links there are. Linux has no control message for it. */
+static bool allow_fragments(int s, bool allowed)
+{
+    int how = allowed ? IP_PMTUDISC_DONT : IP_PMTUDISC_DO;
+    return setsockopt(s, IPPROTO_IP, IP_MTU_DISCOVER, &how, sizeof how) == 0;
+}
+
+/* Sends what a record says: a Request whole and with TTL 255 by its interface, a Reply by whichever leads to the client. */
 static bool send_out(const struct host *host, bool request, uint8_t *output, const uint8_t *record)
 {
     union {
@@ -283,7 +325,7 @@ static bool send_out(const struct host *host, bool request, uint8_t *output, con
         c->cmsg_len = CMSG_LEN(sizeof ttl);
         memcpy(CMSG_DATA(c), &ttl, sizeof ttl);
     }
-    return sendmsg(host->socket, &message, 0) >= 0;
+    return allow_fragments(host->socket, !request) && sendmsg(host->socket, &message, 0) >= 0;
 }
 
 /* ---- the clock ---------------------------------------------------------------------------------- */
@@ -333,6 +375,19 @@ static bool next_clock(struct host *host, struct clock *next)
 
 /* ---- the loop ----------------------------------------------------------------------------------- */
 
+/* Says why a datagram was not sent: errno, and for a Request that is too long what helps. */
+static void tell_unsent(bool request, const uint8_t *record)
+{
+    int why = errno;
+    char text[INET_ADDRSTRLEN];
+    fprintf(stderr, "host: not sent to %s: ", dotted(get32(record + BOUGH_RECORD_DESTINATION), text));
+    if (request && why == EMSGSIZE)
+        fprintf(stderr, "a Request of %u bytes is longer than the link takes: lower the MTU of interface %u in the sheet\n",
+                get16(record + BOUGH_RECORD_LENGTH), get16(record + BOUGH_RECORD_INTERFACE));
+    else
+        fprintf(stderr, "%s\n", strerror(why));
+}
+
 /* Whether anything was to be sent. */
 static bool answer(struct host *host, const uint8_t *payload, const struct arrival *in)
 {
@@ -344,14 +399,14 @@ static bool answer(struct host *host, const uint8_t *payload, const struct arriv
         host->dropped[number]++;
         return false;
     }
-    if (number == BOUGH_SENT_ON)
-        host->sent_on++;
-    else
-        host->replies++;
-    if (!send_out(host, number == BOUGH_SENT_ON, output, record)) {
-        char text[INET_ADDRSTRLEN];
-        fprintf(stderr, "host: not sent to %s: %s\n", dotted(get32(record + BOUGH_RECORD_DESTINATION), text), strerror(errno));
+    bool request = number == BOUGH_SENT_ON;
+    if (!send_out(host, request, output, record)) {
+        tell_unsent(request, record);
         host->unsent++;
+    } else if (request) {
+        host->sent_on++;
+    } else {
+        host->replies++;
     }
     return true;
 }

@@ -48,7 +48,7 @@ extern "C" {
 
 /* ---- sizes, in bytes --------------------------------------------------------------------------- */
 
-#define BOUGH_ROOM 1472               /* no message passes this; every `output` has at least as much */
+#define BOUGH_ROOM 1472               /* no message passes this, whatever the MTUs are; every `output` has at least as much */
 #define BOUGH_RECORD_SIZE 16          /* an answer record, and what a walk answers */
 #define BOUGH_RECENT_SIZE 196         /* the recent list, exactly */
 #define BOUGH_CLOCK_SIZE 24           /* what the clock hands over: r, y and the time issued */
@@ -61,11 +61,15 @@ extern "C" {
 
 #define BOUGH_SHEET_BLOCK 512         /* a sheet is 1 to 16 blocks of this */
 #define BOUGH_SHEET_BLOCKS_MOST 16
-#define BOUGH_INTERFACE_SIZE 24       /* an interface entry; 21 in a block, 64 in a sheet */
-#define BOUGH_INTERFACES_A_BLOCK 21
+#define BOUGH_INTERFACE_SIZE 28       /* an interface entry; 18 in a block, 64 in a sheet */
+#define BOUGH_INTERFACES_A_BLOCK 18
 #define BOUGH_INTERFACES_MOST 64
 #define BOUGH_ROUTE_SIZE 56           /* a route entry; 9 in a block */
 #define BOUGH_ROUTES_A_BLOCK 9
+
+#define BOUGH_MTU_LEAST 576           /* the MTU of an interface entry is this or more .. */
+#define BOUGH_MTU_MOST 65535          /* .. and, having two bytes, at most this */
+#define BOUGH_IP_UDP_SIZE 28          /* the IP and UDP headers of a datagram, which an MTU counts and a payload does not */
 
 #define BOUGH_YARD_SHEET 1024         /* each sheet of a yard: two blocks */
 #define BOUGH_YARD_ROUTERS_MOST 32
@@ -122,7 +126,7 @@ extern "C" {
 #define BOUGH_CODE_RPF_IF 0x09         /* came in on the interface towards the source */
 #define BOUGH_CODE_NO_MULTICAST 0x0A   /* came in on an interface without multicast */
 #define BOUGH_CODE_INFO_HIDDEN 0x0B
-#define BOUGH_CODE_NO_SPACE 0x81       /* no room for the next router's block; the trace ends */
+#define BOUGH_CODE_NO_SPACE 0x81       /* no room for the next router's block on its link to the source; the trace ends */
 #define BOUGH_CODE_ADMIN_PROHIB 0x83   /* tracing is prohibited here; the trace ends */
 #define BOUGH_CODE_REACHED_GW 0x0C
 #define BOUGH_CODE_UNKNOWN_QUERY 0x0D
@@ -134,22 +138,48 @@ extern "C" {
  * kind, byte 1 its entries in use (at least 1), bytes 2-3 its number in the sheet from 0, entries from
  * byte 4 on with zeros behind them, bytes 508-509 switches, bytes 510-511 a check word that brings the sum
  * of the block's 256 16-bit words, with end-around carry (RFC 1071), to 0xFFFF. Only the last block of a kind may have fewer
- * entries than it holds. Entry j of interface block b is interface 21 b + j.
- *
- * Interface entry: address (4), prefix length (1), flags (1), TTL threshold (1), zero (1), input count (8),
- * output count (8).
- * Route entry: kind (1), source length (1), flags (1), zero (1), source (4), group (4), upstream (4),
- * incoming interface (2), routing protocol (2), multicast routing protocol (2), zero (2), packet count (8),
- * maps (8 each): would forward, pruned, stopped. Bit i of a map, from the lowest, is interface i.
- * docs/HOST.md says how the fields are filled from a router's tables. */
+ * entries than it holds. Entry j of interface block b is interface 18 b + j. A sheet of a yard, which has two blocks, so has
+ * 1 to 18 interfaces and 1 to 9 routes, or 19 to 36 interfaces and no route.
+ * docs/HOST.md says how the fields of the entries are filled from a router's tables. */
 #define BOUGH_SHEET_INTERFACES 1      /* kinds of blocks */
 #define BOUGH_SHEET_ROUTES 2
-#define BOUGH_SHEET_ENTRIES 4         /* byte offsets in a block */
+#define BOUGH_SHEET_KIND 0            /* byte offsets in a block */
+#define BOUGH_SHEET_USED 1
+#define BOUGH_SHEET_NUMBER 2
+#define BOUGH_SHEET_ENTRIES 4
 #define BOUGH_SHEET_SWITCHES 508
 #define BOUGH_SHEET_CHECK 510
 #define BOUGH_SWITCH_PROHIBITED 1     /* in block 0: tracing is prohibited */
+
+/* Byte offsets in an interface entry, 28 bytes. */
+#define BOUGH_INTERFACE_AT_ADDRESS 0  /* 4 bytes, unicast */
+#define BOUGH_INTERFACE_AT_LENGTH 4   /* 1: prefix length, 1 to 32 */
+#define BOUGH_INTERFACE_AT_FLAGS 5    /* 1 */
+#define BOUGH_INTERFACE_AT_TTL 6      /* 1: TTL threshold */
+#define BOUGH_INTERFACE_AT_ZERO 7     /* 1: zero */
+#define BOUGH_INTERFACE_AT_INPUT_COUNT 8 /* 8 each */
+#define BOUGH_INTERFACE_AT_OUTPUT_COUNT 16
+#define BOUGH_INTERFACE_AT_MTU 24     /* 2: the longest datagram that the link takes whole, IP header and all; 576 to 65535 */
+#define BOUGH_INTERFACE_AT_ZEROS 26   /* 2: zero */
 #define BOUGH_INTERFACE_MULTICAST 1   /* flags of an interface */
 #define BOUGH_INTERFACE_BOUNDARY 2
+
+/* Byte offsets in a route entry, 56 bytes. Bit i of a map, from the lowest, is interface i. */
+#define BOUGH_ROUTE_AT_KIND 0         /* 1 byte */
+#define BOUGH_ROUTE_AT_LENGTH 1       /* 1: source length; 1 to 32 for kind 1, 0 for kind 2, 0 to 32 for kind 3 */
+#define BOUGH_ROUTE_AT_FLAGS 2        /* 1 */
+#define BOUGH_ROUTE_AT_ZERO 3         /* 1: zero */
+#define BOUGH_ROUTE_AT_SOURCE 4       /* 4; zero past the source length */
+#define BOUGH_ROUTE_AT_GROUP 8        /* 4: multicast; 0 for kind 3 */
+#define BOUGH_ROUTE_AT_UPSTREAM 12    /* 4: unicast, 0 for none, BOUGH_ALL_ONES for one that is not known */
+#define BOUGH_ROUTE_AT_INCOMING 16    /* 2: number of the incoming interface, or BOUGH_INCOMING_UNKNOWN */
+#define BOUGH_ROUTE_AT_PROTOCOL 18    /* 2: routing protocol */
+#define BOUGH_ROUTE_AT_MULTICAST 20   /* 2: multicast routing protocol */
+#define BOUGH_ROUTE_AT_ZEROS 22       /* 2: zero */
+#define BOUGH_ROUTE_AT_PACKETS 24     /* 8: packet count */
+#define BOUGH_ROUTE_AT_FORWARD 32     /* 8 each: the maps would forward, pruned and stopped */
+#define BOUGH_ROUTE_AT_PRUNED 40
+#define BOUGH_ROUTE_AT_STOPPED 48
 #define BOUGH_ROUTE_SOURCE_GROUP 1    /* kinds of routes */
 #define BOUGH_ROUTE_GROUP 2
 #define BOUGH_ROUTE_SOURCE 3
@@ -162,7 +192,7 @@ extern "C" {
 /* Drop numbers of bough_engine_step, in the order tried: the first that applies is the answer. */
 #define BOUGH_DROP_ROOM 1             /* output under 1472 bytes, or record under 16 */
 #define BOUGH_DROP_STATE 2            /* recent list malformed */
-#define BOUGH_DROP_SHEET 3            /* sheet breaks a rule */
+#define BOUGH_DROP_SHEET 3            /* sheet breaks a rule; an MTU under 576 too */
 #define BOUGH_DROP_IFACE 4            /* receiving interface not in the sheet */
 #define BOUGH_DROP_SIZE 5             /* message under 20 or over 1472 bytes */
 #define BOUGH_DROP_TYPE 6             /* neither a Query nor a Request */
@@ -253,6 +283,11 @@ uint32_t bough_clock_arrival(uint64_t y);
  * recent: BOUGH_RECENT_SIZE bytes that the host zeroes once and lends at every step of this router; an
  * accepted Query is entered in it. output, record: lent for the answer; bytes past it stay as they are.
  *
+ * Room: with this router's block a message may have as many bytes as the smaller of BOUGH_ROOM and MTU - BOUGH_IP_UDP_SIZE,
+ * by the MTU of the chosen route's incoming interface, or of the receiving interface where there is no route or its incoming
+ * interface is unknown. A Request that would pass that, even if its trace were to end here, goes home as it came, of
+ * whatever length, with BOUGH_CODE_NO_SPACE in its last Standard Response Block. A Query always has room.
+ *
  * 1 to 18: dropped; nothing is written; send nothing, to nobody.
  *
  * 100, BOUGH_SENT_ON: a Request for the next router. Send output[0 .. length) to `destination` and `port`
@@ -260,11 +295,13 @@ uint32_t bough_clock_arrival(uint64_t y);
  *     setsockopt(.., IPPROTO_IP, IP_TTL, 255) and, since the destination may be the group 224.0.0.2,
  *     IP_MULTICAST_TTL 255 (in Linux an IP_TTL control message does both for one datagram); an IP_PKTINFO control message with
  *     ipi_ifindex the kernel's index of the interface and ipi_spec_dst the source. The next router drops a
- *     Request that comes with another TTL.
+ *     Request that comes with another TTL. No fragments: IP_MTU_DISCOVER with IP_PMTUDISC_DO. One that the kernel then
+ *     refuses (EMSGSIZE) is longer than the link takes: the sheet's MTU of that interface is too large.
  *
  * 101, BOUGH_REPLY: a Reply for the client. Send output[0 .. length) to `destination` and `port`; the interface
  * is 65535: bind the socket to none, set no ipi_ifindex and leave the way to the kernel's routes; ipi_spec_dst
- * is the source. The TTL is the kernel's own. */
+ * is the source. The TTL is the kernel's own. It may be longer than a link on its way home takes, so let it be fragmented:
+ * IP_MTU_DISCOVER with IP_PMTUDISC_DONT. */
 uint32_t bough_engine_step(
     const uint8_t *message, size_t message_len,
     uint32_t destination, uint32_t receiving_interface, uint32_t ttl, uint32_t arrival_time,
@@ -288,8 +325,8 @@ uint32_t bough_engine_step(
  * Any other number is a refusal (1, 21 to 24, tried in that order; no step was made) or the drop number by which the
  * first router dropped the message (one step); nothing is written.
  *
- * A walk makes at most as many steps as the Query has hops, and at most 28. It takes up to 64 kilobytes of stack;
- * the other entries take less than 2. */
+ * A walk makes at most as many steps as the Query has hops, and at most 28, whatever the MTUs are. It takes up to 64 kilobytes
+ * of stack; the other entries take less than 2. */
 #define BOUGH_ANSWER_END 0            /* byte offsets in the answer */
 #define BOUGH_ANSWER_STEPS 4
 #define BOUGH_ANSWER_BLOCKS 8

@@ -63,9 +63,11 @@ struct lent {
     uint8_t message[BOUGH_ROOM], tables[3 * BOUGH_YARD_SHEET], recent[BOUGH_ROOM], output[BOUGH_ROOM], record[BOUGH_ROOM];
 };
 
-/* A router with two interfaces: 0, towards the source, 10.0.FAR.1; 1, towards the receiver, 10.0.NEAR.2. */
+/* A router with two interfaces: 0, towards the source, 10.0.FAR.1, with this MTU; 1, towards the receiver, 10.0.NEAR.2, with the
+ * least there is, so that room taken from the wrong interface is seen. */
 struct router {
     uint8_t near, far;
+    uint16_t mtu;
     uint32_t upstream;
 };
 #define TOWARDS_SOURCE(far) (0x0A000001u | (uint32_t)(far) << 8)
@@ -85,33 +87,36 @@ static void check(uint8_t *block)
 }
 
 /* An interface: its TTL threshold is `own`, its counts the next two numbers. */
-static void interface(uint8_t *at, uint32_t address, uint8_t own)
+static void interface(uint8_t *at, uint32_t address, uint8_t own, uint16_t mtu)
 {
-    put(at, address, 4);
-    at[4] = 24;
-    at[5] = BOUGH_INTERFACE_MULTICAST;
-    at[6] = own;
-    put(at + 8, own + 1u, 8);
-    put(at + 16, own + 2u, 8);
+    put(at + BOUGH_INTERFACE_AT_ADDRESS, address, 4);
+    at[BOUGH_INTERFACE_AT_LENGTH] = 24;
+    at[BOUGH_INTERFACE_AT_FLAGS] = BOUGH_INTERFACE_MULTICAST;
+    at[BOUGH_INTERFACE_AT_TTL] = own;
+    put(at + BOUGH_INTERFACE_AT_INPUT_COUNT, own + 1u, 8);
+    put(at + BOUGH_INTERFACE_AT_OUTPUT_COUNT, own + 2u, 8);
+    put(at + BOUGH_INTERFACE_AT_MTU, mtu, 2);
 }
 
 static void sheet(uint8_t *at, struct router router)
 {
     uint8_t *routes = at + BOUGH_SHEET_BLOCK, *route = routes + BOUGH_SHEET_ENTRIES;
     memset(at, 0, BOUGH_YARD_SHEET);
-    at[0] = BOUGH_SHEET_INTERFACES;
-    at[1] = 2;
-    interface(at + BOUGH_SHEET_ENTRIES, TOWARDS_SOURCE(router.far), 11);
-    interface(at + BOUGH_SHEET_ENTRIES + BOUGH_INTERFACE_SIZE, TOWARDS_RECEIVER(router.near), 21);
-    routes[0] = BOUGH_SHEET_ROUTES;
-    routes[1] = routes[3] = 1;
-    route[0] = BOUGH_ROUTE_GROUP;
-    put(route + 8, GROUP, 4);
-    put(route + 12, router.upstream, 4);
-    put(route + 18, 31, 2); /* routing protocol, multicast routing protocol, packets */
-    put(route + 20, 32, 2);
-    put(route + 24, 33, 8);
-    put(route + 32, 1 << 1, 8); /* would forward to interface 1 */
+    at[BOUGH_SHEET_KIND] = BOUGH_SHEET_INTERFACES;
+    at[BOUGH_SHEET_USED] = 2;
+    interface(at + BOUGH_SHEET_ENTRIES, TOWARDS_SOURCE(router.far), 11, router.mtu);
+    interface(at + BOUGH_SHEET_ENTRIES + BOUGH_INTERFACE_SIZE, TOWARDS_RECEIVER(router.near), 21, BOUGH_MTU_LEAST);
+    routes[BOUGH_SHEET_KIND] = BOUGH_SHEET_ROUTES;
+    routes[BOUGH_SHEET_USED] = 1;
+    put(routes + BOUGH_SHEET_NUMBER, 1, 2);
+    route[BOUGH_ROUTE_AT_KIND] = BOUGH_ROUTE_GROUP;
+    put(route + BOUGH_ROUTE_AT_GROUP, GROUP, 4);
+    put(route + BOUGH_ROUTE_AT_UPSTREAM, router.upstream, 4);
+    put(route + BOUGH_ROUTE_AT_INCOMING, 0, 2);
+    put(route + BOUGH_ROUTE_AT_PROTOCOL, 31, 2);
+    put(route + BOUGH_ROUTE_AT_MULTICAST, 32, 2);
+    put(route + BOUGH_ROUTE_AT_PACKETS, 33, 8);
+    put(route + BOUGH_ROUTE_AT_FORWARD, 1 << 1, 8); /* to interface 1 */
     check(at);
     check(routes);
 }
@@ -131,9 +136,9 @@ static uint8_t *block(uint8_t *at, struct router router, uint32_t time)
     return put(put(put(put(at, 31, 2), 32, 2), 21 << 8, 2), 0xFF00 | BOUGH_CODE_NO_ERROR, 2);
 }
 
-static const struct router first = {.near = 9, .far = 8, .upstream = TOWARDS_RECEIVER(8)},
-                           second = {.near = 8, .far = 7, .upstream = TOWARDS_RECEIVER(7)},
-                           last = {.near = 7, .far = 6, .upstream = 0};
+static const struct router first = {.near = 9, .far = 8, .mtu = 1500, .upstream = TOWARDS_RECEIVER(8)},
+                           second = {.near = 8, .far = 7, .mtu = 1500, .upstream = TOWARDS_RECEIVER(7)},
+                           last = {.near = 7, .far = 6, .mtu = 1500, .upstream = 0};
 
 /* ---- engine --------------------------------------------------------------------------------------- */
 
@@ -178,6 +183,56 @@ static void engine_entry(void)
     expect(memcmp(&ours, &due, sizeof due) == 0, "the Reply and its record");
 }
 
+/* A Request that fits the link towards the source with this router's block exactly, then passes it by a byte. */
+static void room_of_a_link(void)
+{
+    static struct lent ours, due;
+    struct router small = first;
+    memset(&ours, 0xEE, sizeof ours);
+    memset(ours.recent, 0, BOUGH_RECENT_SIZE);
+    uint8_t *last_block = header(ours.message, BOUGH_TYPE_REQUEST, 255);
+    for (uint32_t time = 1; time < 17; time++)
+        last_block = block(last_block, second, time);
+    size_t length = (size_t)(block(last_block, last, 17) - ours.message), longer = length + BOUGH_STANDARD_SIZE;
+
+    small.mtu = (uint16_t)(longer + BOUGH_IP_UDP_SIZE);
+    sheet(ours.tables, small);
+    due = ours;
+    memcpy(due.output, ours.message, length);
+    block(due.output + length, small, 5);
+    record(due.record, (uint16_t)longer, small.upstream, BOUGH_PORT, 0, TOWARDS_SOURCE(small.far));
+    expect(step(&ours, length, TOWARDS_RECEIVER(small.near), 255, 5) == BOUGH_SENT_ON, "a Request of 956 bytes by an MTU of 984");
+    expect(memcmp(&ours, &due, sizeof due) == 0, "the Request that just fits, and its record");
+
+    small.mtu--;
+    sheet(ours.tables, small);
+    due = ours;
+    memcpy(due.output, ours.message, length);
+    due.output[0] = BOUGH_TYPE_REPLY;
+    due.output[last_block - ours.message + BOUGH_BLOCK_CODE] = BOUGH_CODE_NO_SPACE;
+    record(due.record, (uint16_t)length, CLIENT, CLIENT_PORT, BOUGH_ANY_INTERFACE, TOWARDS_RECEIVER(small.near));
+    expect(step(&ours, length, TOWARDS_RECEIVER(small.near), 255, 5) == BOUGH_REPLY, "a Request of 904 bytes by an MTU of 983");
+    expect(memcmp(&ours, &due, sizeof due) == 0, "the Reply that is full, and its record");
+}
+
+/* The last 4 bytes of an interface entry: the least MTU and one less, and the zeros behind it. */
+static void mtu_of_a_sheet(void)
+{
+    static struct lent ours;
+    struct router least = first;
+    uint8_t *zeros = ours.tables + BOUGH_SHEET_ENTRIES + BOUGH_INTERFACE_AT_ZEROS;
+    memset(ours.recent, 0, BOUGH_RECENT_SIZE);
+    least.mtu = BOUGH_MTU_LEAST;
+    sheet(ours.tables, least);
+    expect(step(&ours, 0, 0, 0, 0) == BOUGH_DROP_SIZE, "a sheet with the least MTU");
+    put(zeros, 1, 2);
+    check(ours.tables);
+    expect(step(&ours, 0, 0, 0, 0) == BOUGH_DROP_SHEET, "a sheet with more than zeros behind an MTU");
+    least.mtu--;
+    sheet(ours.tables, least);
+    expect(step(&ours, 0, 0, 0, 0) == BOUGH_DROP_SHEET, "a sheet with an MTU of 575");
+}
+
 /* ---- walk ----------------------------------------------------------------------------------------- */
 
 static uint32_t walk(struct lent *l, size_t count)
@@ -209,6 +264,11 @@ static void walk_entry(void)
     put(put(put(put(due.record, BOUGH_REPLY, 4), 28, 4), 27, 4), 1424, 4);
     expect(walk(&ours, 3) == BOUGH_REPLY && memcmp(ours.record, due.record, sizeof due.record) == 0, "28 steps in a loop");
     expect(ours.output[BOUGH_HEADER_SIZE + 26 * BOUGH_STANDARD_SIZE + BOUGH_BLOCK_CODE] == BOUGH_CODE_NO_SPACE, "no space");
+
+    back.mtu = BOUGH_MTU_LEAST; /* its router is the third, and every third from there on: it is full at the twelfth */
+    sheet(ours.tables + BOUGH_YARD_SHEET, back);
+    put(put(put(put(due.record, BOUGH_REPLY, 4), 12, 4), 11, 4), 592, 4);
+    expect(walk(&ours, 3) == BOUGH_REPLY && memcmp(ours.record, due.record, sizeof due.record) == 0, "one small link in a loop");
 }
 
 /* ---- Replies -------------------------------------------------------------------------------------- */
@@ -300,6 +360,8 @@ int main(void)
 {
     clock_entries();
     engine_entry();
+    room_of_a_link();
+    mtu_of_a_sheet();
     walk_entry();
     check_entry();
     next_entry();

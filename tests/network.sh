@@ -140,6 +140,15 @@ sent_datagrams() {
     in_space "$1" awk '/^Udp:/ { if (n++) print $5 }' /proc/net/snmp
 }
 
+# fragments: how many the kernel has made in each namespace, of its own datagrams and of those that it forwards
+fragments() {
+    for name in client near middle far source; do
+        # shellcheck disable=SC2016
+        in_space "$name" awk -v name="$name" '/^Ip:/ && n++ { print name, $at }
+            /^Ip:/ { for (i = 1; i <= NF; i++) if ($i == "FragCreates") at = i }' /proc/net/snmp
+    done | paste -s -d ' '
+}
+
 chain='1 out 192.0.2.1 in 198.51.100.1 up 198.51.100.2 code 0 NO_ERROR
 2 out 198.51.100.2 in 203.0.113.1 up 203.0.113.2 code 0 NO_ERROR
 3 out 203.0.113.2 in 10.9.0.1 up 0.0.0.0 code 0 NO_ERROR
@@ -193,11 +202,13 @@ stop near
 stop middle
 start near near
 start middle middle-looping
+# looping BLOCKS [CODE]: the trace through the two of them, with this code in the last block
 looping() {
+    local k code
     echo "1 out 192.0.2.1 in 198.51.100.1 up 198.51.100.2 code 0 NO_ERROR"
     for k in $(seq 2 "$1"); do
         code="9 RPF_IF"
-        [ "$k $1" = "27 27" ] && code="129 NO_SPACE"
+        [ "$k" = "$1" ] && code=${2:-$code}
         if [ $((k % 2)) = 0 ]; then
             echo "$k out 198.51.100.2 in 198.51.100.2 up 198.51.100.1 code $code"
         else
@@ -207,11 +218,115 @@ looping() {
     echo "status 3"
 }
 same "two routers that name each other, 6 hops" "$(looping 6)" "$(trace -h 6 192.0.2.1)"
-same "two routers that name each other, 255 hops: until the packet is full" "$(looping 27)" "$(trace -h 255 192.0.2.1)"
+same "two routers that name each other, 255 hops: until the packet is full" "$(looping 27 "129 NO_SPACE")" "$(trace -h 255 192.0.2.1)"
 stop near
 stop middle
 same "the near router's counts" "received 17 sent on 17 replies 0 not sent 0" "$(counts near)"
 same "the middle router's counts" "received 17 sent on 15 replies 2 not sent 0" "$(counts middle)"
+
+# ---- a link of MTU 1000 between the two ---------------------------------------------------------------
+
+# mtu NAME1 INTERFACE1 NAME2 INTERFACE2 MTU: that of both ends of a cable
+mtu() {
+    ip -n "$tag-$1" link set "$2" mtu "$5"
+    ip -n "$tag-$3" link set "$4" mtu "$5"
+}
+# measured: of what the client printed last, the length and the number of blocks
+measured() {
+    plain < "$place/asked" | sed -n 's/^trace 1: Reply after T ms: //p'
+}
+whole="client 0 near 0 middle 0 far 0 source 0"
+mtu near up0 middle down0 1000
+start near near-tunnel
+start middle middle-tunnel
+same "a loop over a link of MTU 1000, 255 hops: until the link is full" "$(looping 18 "129 NO_SPACE")
+956 bytes, blocks 18" "$(trace -h 255 192.0.2.1; measured)"
+same "no fragment was made of the Requests" "$whole" "$(fragments)"
+mtu client up0 near down0 600
+same "a full Reply, over a smaller link home" "$(looping 18 "129 NO_SPACE")
+956 bytes, blocks 18" "$(trace -h 255 192.0.2.1; measured)"
+same "a far router's Reply, over a smaller link home" "$(looping 18)
+956 bytes, blocks 18" "$(trace -h 18 192.0.2.1; measured)"
+same "two fragments were made of either Reply, on the smaller link" "client 0 near 4 middle 0 far 0 source 0" "$(fragments)"
+whole="client 0 near 4 middle 0 far 0 source 0"
+mtu client up0 near down0 1500
+stop near
+stop middle
+same "the near router's counts, MTU 1000" "received 29 sent on 27 replies 2 not sent 0" "$(cat "$place/near.err"; counts near)"
+same "the middle router's counts, MTU 1000" "received 27 sent on 26 replies 1 not sent 0" "$(cat "$place/middle.err"; counts middle)"
+
+start near near
+start middle middle-looping
+too_large="host: the MTU of 198.51.100.1 (interface 1 of the sheet) is 1500 in the sheet and 1000 in the kernel: what is longer is not sent on"
+same "a sheet's MTU that is larger than the link's" "$too_large" "$(cat "$place/near.err")"
+same "a Request that is longer than the link" "trace 1: no reply in 1 s
+status 1" "$(trace -h 255 -t 1 192.0.2.1)"
+same "it is not sent, and the host says so" "$too_large
+host: not sent to 198.51.100.2: a Request of 1008 bytes is longer than the link takes: lower the MTU of interface 1 in the sheet" \
+    "$(cat "$place/near.err")"
+same "the longest Reply in place of that Request" "$(looping 19)
+1008 bytes, blocks 19" "$(trace -h 19 192.0.2.1; measured)"
+cp "$place/near-tunnel" "$place/near"
+kill -HUP "${hosts[near]}"
+sleep 0.3
+same "the MTU set right, by a sheet read anew" "$(looping 18 "129 NO_SPACE")
+956 bytes, blocks 18" "$(trace -h 255 192.0.2.1; measured)"
+same "no fragment was made of a Request" "$whole" "$(fragments)"
+stop near
+stop middle
+same "the near router's counts, one Request not sent" "received 30 sent on 27 replies 2 not sent 1" "$(counts near)"
+same "the middle router's counts" "received 27 sent on 27 replies 0 not sent 0" "$(counts middle)"
+mtu near up0 middle down0 1500
+"$run" "$bin/sheet" < examples/sheets/near.txt > "$place/near"
+
+# ---- the sheet maker ----------------------------------------------------------------------------------
+
+# sheet_of TEXT: what the sheet maker says of it, or the MTU and the zeros of its first interface, and its status
+sheet_of() {
+    local status=0
+    "$run" "$bin/sheet" <<< "$1" > "$place/sheet" 2> "$place/sheet.err" || status=$?
+    cat "$place/sheet.err"
+    [ "$status" != 0 ] || od -An -tx1 -j28 -N4 "$place/sheet"
+    echo "status $status"
+}
+interface="interface 192.0.2.1/24 multicast"
+same "an MTU that is not named" " 05 dc 00 00
+status 0" "$(sheet_of "$interface")"
+same "the least MTU" " 02 40 00 00
+status 0" "$(sheet_of "$interface mtu 576")"
+same "the largest MTU" " ff ff 00 00
+status 0" "$(sheet_of "$interface mtu 65535 ttl 1")"
+for bad in 575 65536 0 -1 1e3 0x600 99999999999999999999 ttl ''; do
+    same "an MTU that cannot be: '$bad'" "sheet: line 2 has an MTU that is not a number from 576 to 65535
+status 1" "$(sheet_of "$interface
+$interface mtu $bad")"
+done
+same "another word" "sheet: line 1 is not understood
+status 1" "$(sheet_of "$interface mtus 1500")"
+same "a line of 1022 bytes" " 05 dc 00 00
+status 0" "$(sheet_of "$interface # $(printf '%0987d' 0)")"
+same "a longer line" "sheet: line 1 is too long
+status 1" "$(sheet_of "$interface # $(printf '%0988d' 0)")"
+same "an input that cannot be read" "sheet: standard input: Is a directory
+status 1" "$("$run" "$bin/sheet" 2>&1 < "$place"; echo "status $?")"
+# interfaces COUNT: so many lines
+interfaces() {
+    for k in $(seq "$1"); do echo "interface 10.0.$k.1/24"; done
+}
+same "18 interfaces in a block, and 64 in four" "512 1024 2048" \
+    "$(for n in 18 19 64; do interfaces $n | "$run" "$bin/sheet" | wc -c; done | paste -s -d ' ')"
+same "the yard that README.md walks is its sheets" "$(tail -c 2048 examples/two-routers.yard | od -An -tx1 -v)" "$({
+    "$run" "$bin/sheet" << END
+interface 192.0.2.1/24 multicast
+interface 198.51.100.1/24 multicast
+route 203.0.113.0/24 232.1.1.1 incoming 1 upstream 198.51.100.2 forward 0
+END
+    "$run" "$bin/sheet" << END
+interface 198.51.100.2/24 multicast
+interface 203.0.113.1/24 multicast
+route 203.0.113.0/24 232.1.1.1 incoming 1 forward 0
+END
+} | od -An -tx1 -v)"
 
 # ---- all that a Reply carries, and the loss between two -----------------------------------------------
 
