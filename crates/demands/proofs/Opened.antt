@@ -13,7 +13,7 @@ use Rattle.interface.specs.Interface.{interfaceAt, interfaceOk}
 use Rattle.route_entry.specs.Route.{routeAt, routeOk}
 use Rattle.sheet.specs.Every.{every, listed}
 use Rattle.sheet.specs.Rules.{blockOk}
-use Rattle.sheet.specs.Sheet.{interfaceBlocksIn, interfaceBlocks, entriesIn, interfacesIn, routesIn, blockOkAt, validSheet, counted, layoutOf}
+use Rattle.sheet.specs.Sheet.{interfaceBlocksIn, interfaceBlocks, entriesIn, interfacesIn, routesIn, interfaceBlockOk, routeBlockOk, blockOkWith, validSheet, counted, layoutOf}
 use Rattle.sheet.specs.Tables.{interfaceOf, routeOf, interfacesOf, routesOf, prohibitedOf, holderFrom, holderOf}
 use Rattle.route.specs.Choice.{servesBoth, servesGroup, servesSource, longer, longestBy, orElse, whichRoute}
 use Rattle.route.specs.LastHop.{reaches, someReaches, properLastHop}
@@ -40,5 +40,5 @@ use Rattle.demands.specs.Walk.{blank}
 use Rattle.demands.specs.Example.{linkedRouters, standardsOf, requestWith, tracedIn, sheetBlockBytes, twoRouters, queryFor, traced, paperInput, paperText}
 
 unfoldable pub opened : ℕ
-unfolding be bytes splice allZero byFirst timeFor startOf advanceOf unixOf afterBy issuesBy carried sumFrom sumOk frameOk hosts samePrefix zeroPast interfaceAt interfaceOk routeAt routeOk every listed blockOk interfaceBlocksIn interfaceBlocks entriesIn interfacesIn routesIn blockOkAt validSheet counted layoutOf interfaceOf routeOf interfacesOf routesOf prohibitedOf holderFrom holderOf servesBoth servesGroup servesSource longer longestBy orElse whichRoute reaches someReaches properLastHop codes filledOf blockOf endsTrace blockBytes noteBytes headerOf fitsIn begins blocksBy blocksFrom blocksOf totalSize standardPlaces lastOr standards blocksEnd standardFirst fillsMessage rightForm standardBlocks headerRows messageRows wellFormed empty firstEntries someIsOf seenIn enteredIn routeFor lastHopFor lendingRows deliveryRows routeRows table incomingFor viewWith roomWith longerMessage longerAnswer sentBy recentAfter stepOf sheetAt yardOk lowestFrom holderIn sentFor endOf walkBy walkFrom walkRows walkOf ascii headOf visitOf timesOf walkIn walkFor decimal dotted addresses codeText lineOf linesOf endText firstLine walkText textOf blank sheetBlockBytes linkedRouters twoRouters queryFor standardsOf requestWith tracedIn traced paperInput paperText
+unfolding be bytes splice allZero byFirst timeFor startOf advanceOf unixOf afterBy issuesBy carried sumFrom sumOk frameOk hosts samePrefix zeroPast interfaceAt interfaceOk routeAt routeOk every listed blockOk interfaceBlocksIn interfaceBlocks entriesIn interfacesIn routesIn interfaceBlockOk routeBlockOk blockOkWith validSheet counted layoutOf interfaceOf routeOf interfacesOf routesOf prohibitedOf holderFrom holderOf servesBoth servesGroup servesSource longer longestBy orElse whichRoute reaches someReaches properLastHop codes filledOf blockOf endsTrace blockBytes noteBytes headerOf fitsIn begins blocksBy blocksFrom blocksOf totalSize standardPlaces lastOr standards blocksEnd standardFirst fillsMessage rightForm standardBlocks headerRows messageRows wellFormed empty firstEntries someIsOf seenIn enteredIn routeFor lastHopFor lendingRows deliveryRows routeRows table incomingFor viewWith roomWith longerMessage longerAnswer sentBy recentAfter stepOf sheetAt yardOk lowestFrom holderIn sentFor endOf walkBy walkFrom walkRows walkOf ascii headOf visitOf timesOf walkIn walkFor decimal dotted addresses codeText lineOf linesOf endText firstLine walkText textOf blank sheetBlockBytes linkedRouters twoRouters queryFor standardsOf requestWith tracedIn traced paperInput paperText
 opened = 0

@@ -16,7 +16,7 @@ use Rattle.route_entry.specs.declared.Route.{Route}
 use Rattle.route_entry.proofs.Laws.{RouteKept, route-kept}
 use Rattle.route.specs.declared.Best.{Best}
 use Rattle.route.specs.Choice.{servesBoth, servesGroup, servesSource}
-use Rattle.route.specs.Inside.{bothRank, groupRank, sourceRank, rankBy, rankOf, ofSource, serves, rankAs, better}
+use Rattle.route.specs.Inside.{bothRank, groupRank, sourceRank, rankBy, rankOf, rankAt, ofSource, serves, rankAs, better}
 use Rattle.route.proofs.Ranks.{better-same}
 
 -- no group that routes have is all ones
@@ -85,13 +85,15 @@ by-source source group r kind x e k f = f ∙ rw (← e, k)
 
 -- the best so far with a route that does not serve, and with one that does
 module _ (s : List ℕ) (at interfaces source group : ℕ) (ok : routeOk interfaces (routeAt s at) ≡ true) (x : Bool)
-    (told : x ≡ serves source group (routeAt s at)) (b : Best) (k : ℕ) where
+    (told : x ≡ serves source group (routeAt s at)) (b : Best) where
   its-rank : rankOf source group (routeAt s at) ≡ cond x (rankAs (routeAt s at .kind) (routeAt s at .length)) 0
   its-rank = rw told (ranked source group (routeAt s at) interfaces (route-kept interfaces (routeAt s at) ok))
 
-  pub not-serving : not x ≡ true → b ≡ better b (rankOf source group (routeAt s at)) k
-  not-serving e = rw (its-rank, not-true x e) (sym (better-same b 0 k (omega arith)))
+  pub not-serving : not x ≡ true → b ≡ better b (rankAt s source group at) at
+  unfolding rankAt
+  not-serving e = rw (its-rank, not-true x e) (sym (better-same b 0 at (omega arith)))
 
   pub serving : (kind bits rank : ℕ) (b′ : Best) → not x ≡ false → kind ≡ routeAt s at .kind → bits ≡ routeAt s at .length → rank ≡ rankAs kind bits
-      → b′ ≡ better b rank k → b′ ≡ better b (rankOf source group (routeAt s at)) k
+      → b′ ≡ better b rank at → b′ ≡ better b (rankAt s source group at) at
+  unfolding rankAt
   serving kind bits rank b′ e ek eb er f = f ∙ rw (its-rank, not-false x e, er, ek, eb)

@@ -8,6 +8,7 @@ use borrow.Author.Tests.{eqb-false}
 use Rattle.rows.proofs.Laws.{cond-cases}
 use Rattle.format.specs.Sizes.{Sound}
 use Rattle.format.specs.declared.Format.{Format}
+use Rattle.route_entry.specs.Route.{routeAt}
 use Rattle.route_entry.specs.declared.Route.{Route}
 use Rattle.route_entry.proofs.Laws.{RouteKept, route-kept}
 use Rattle.sheet.specs.Sheet.{layoutOf}
@@ -16,8 +17,8 @@ use Rattle.sheet.proofs.Laws.{route-keeps}
 use Rattle.route.specs.declared.Chosen.{Chosen}
 use Rattle.route.specs.declared.Chosen.the-variants.{Found, Nothing}
 use Rattle.route.specs.Choice.{whichRoute}
-use Rattle.route.specs.Inside.{ranksIn, bestOf}
-use Rattle.route.proofs.Turns.{by-rank, chosen-there}
+use Rattle.route.specs.Inside.{bestOf}
+use Rattle.route.proofs.Turns.{by-rank, chosen-numbered}
 
 -- a route of the sheet, by its number
 record OfSheet (F : Format) (s : List ℕ) (r : Route) : Type 0 where
@@ -28,16 +29,14 @@ record OfSheet (F : Format) (s : List ℕ) (r : Route) : Type 0 where
 module _ {F : Format} (sound : Sound F) (s : List ℕ) (source group : ℕ) (r : Route) (chosen : whichRoute (routesOf F s) source group ≡ Found r) where
   -- the chosen route is one of the sheet's
   chosen-of-sheet : OfSheet F s r
+  unfolding routeOf
   chosen-of-sheet =
-      let b = bestOf (ranksIn F s source group) (layoutOf F s .routes) in
-      cond-cases (λ (c : Chosen). c ≡ Found r → OfSheet F s r) (eqb (b .rank) 0) Nothing (Found (routeOf F s (b .at)))
+      let b = bestOf F s source group (layoutOf F s .routes) in
+      cond-cases (λ (c : Chosen). c ≡ Found r → OfSheet F s r) (eqb (b .rank) 0) Nothing (Found (routeAt s (b .at)))
       (λ e q. let z : _≡_ {A = ℕ} 0 1 = cc in absurd (omega arith))
       (λ e q.
-      record {
-        number = b .at;
-        there = chosen-there F s (layoutOf F s) refl source group b refl (eqb-false (b .rank) 0 e);
-        is = cc;
-      })
+      let n = chosen-numbered sound s source group b refl (eqb-false (b .rank) 0 e) in
+      record { number = n .number; there = n .there; is = cc (n .is) })
       (sym (by-rank sound s source group) ∙ chosen)
 
   -- and keeps the rules on routes

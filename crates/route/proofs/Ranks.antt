@@ -15,7 +15,7 @@ use Rattle.route.specs.declared.Best.{Best}
 use Rattle.route.specs.declared.Chosen.{Chosen}
 use Rattle.route.specs.declared.Chosen.the-variants.{Found, Nothing}
 use Rattle.route.specs.Choice.{longer, longestBy, orElse, whichRoute, servesBoth, servesGroup, servesSource}
-use Rattle.route.specs.Inside.{sourceRank, groupRank, bothRank, rankBy, rankOf, best, better, bestOf, asBoth, asGroup, asSource}
+use Rattle.route.specs.Inside.{sourceRank, groupRank, bothRank, rankBy, rankOf, best, better, bestWith, asBoth, asGroup, asSource}
 
 -- what is chosen of a list and one route more
 longest-more : (test : Route → Bool) (w : Chosen) (rs : List Route) (r : Route)
@@ -98,27 +98,35 @@ module _ (at : ℕ → Route) where
   stands-for b Nothing Nothing (Found q) h = rw (ne-eqb (b .rank) 0 (λ e. omega arith), h .0)
   stands-for b Nothing Nothing Nothing h = rw (eq-eqb (b .rank) 0 h)
 
-  -- the first n routes, in order
-  abbrev pub firstRoutes : ℕ → List Route
-  firstRoutes zero = []
-  firstRoutes (suc n) = firstRoutes n ++ (at n ∷ [])
+-- the first n routes, in order
+abbrev pub firstRoutes : (ℕ → Route) → ℕ → List Route
+firstRoutes route zero = []
+firstRoutes route (suc n) = firstRoutes route n ++ (route n ∷ [])
+
+-- the routes by their places
+module _ (at : ℕ → Route) (place : ℕ → ℕ) where
+  abbrev its-route : ℕ → Route
+  its-route k = at (place k)
 
   module _ (both shared sourced : Route → Bool) where
     abbrev Right : ℕ → Type 0
-    Right n = (k : ℕ) → k < n → (shared (at k) ≡ true → at k .length ≡ 0) × (at k .length ≤ addressBits)
+    Right n = (k : ℕ) → k < n → (shared (its-route k) ≡ true → its-route k .length ≡ 0) × (its-route k .length ≤ addressBits)
+
+    abbrev highest : ℕ → Best
+    highest n = bestWith (λ p. rankBy both shared sourced (at p)) place (best 0 0) n
 
     stands : (n : ℕ) → Right n
-        → Stands (bestOf (λ k. rankBy both shared sourced (at k)) n) (longestBy both Nothing (firstRoutes n)) (longestBy shared Nothing (firstRoutes n))
-        (longestBy sourced Nothing (firstRoutes n))
-    unfolding bestOf longestBy rankBy
+        → Stands at (highest n) (longestBy both Nothing (firstRoutes its-route n)) (longestBy shared Nothing (firstRoutes its-route n))
+        (longestBy sourced Nothing (firstRoutes its-route n))
+    unfolding bestWith longestBy rankBy
     stands zero h = refl
     stands (suc n) h =
         rw (
-          longest-more both Nothing (firstRoutes n) (at n),
-          longest-more shared Nothing (firstRoutes n) (at n),
-          longest-more sourced Nothing (firstRoutes n) (at n),
+          longest-more both Nothing (firstRoutes its-route n) (its-route n),
+          longest-more shared Nothing (firstRoutes its-route n) (its-route n),
+          longest-more sourced Nothing (firstRoutes its-route n) (its-route n),
         )
-        (one-more (bestOf (λ k. rankBy both shared sourced (at k)) n) n (both (at n)) (shared (at n)) (sourced (at n)) _ _ _
+        (one-more at (highest n) (place n) (both (its-route n)) (shared (its-route n)) (sourced (its-route n)) _ _ _
         (h n (omega arith) .0) (h n (omega arith) .1) (stands n (λ k l. h k (omega arith))))
 
 -- a test that nothing passes
@@ -143,21 +151,27 @@ by-kinds false true rs both shared sourced = rw (longest-none Nothing rs)
 by-kinds false false rs both shared sourced = refl
 
 -- the route of the highest rank, the first of several, is the route that is chosen
-pub chosen-by-rank : (at : ℕ → Route) (n source group : ℕ)
-    → ((k : ℕ) → k < n → (asGroup source group (at k) ≡ true → at k .length ≡ 0) × (at k .length ≤ addressBits))
-    → whichRoute (firstRoutes at n) source group
-    ≡ cond (eqb (bestOf (λ k. rankOf source group (at k)) n .rank) 0) Nothing (Found (at (bestOf (λ k. rankOf source group (at k)) n .at)))
+pub chosen-by-rank : (at : ℕ → Route) (place : ℕ → ℕ) (n source group : ℕ)
+    → ((k : ℕ) → k < n → (asGroup source group (at (place k)) ≡ true → at (place k) .length ≡ 0) × (at (place k) .length ≤ addressBits))
+    → let b = bestWith (λ p. rankOf source group (at p)) place (best 0 0) n in
+    whichRoute (firstRoutes (λ k. at (place k)) n) source group ≡ cond (eqb (b .rank) 0) Nothing (Found (at (b .at)))
 unfolding whichRoute
-chosen-by-rank at n source group right =
-    by-kinds (allOnes source) (allOnes group) (firstRoutes at n) (servesBoth source group) (servesGroup group) (servesSource source)
-    ∙ stands-for at (bestOf (λ k. rankOf source group (at k)) n) _ _ _
-    (stands at (asBoth source group) (asGroup source group) (asSource source) n right)
+chosen-by-rank at place n source group right =
+    by-kinds (allOnes source) (allOnes group) (firstRoutes (λ k. at (place k)) n) (servesBoth source group) (servesGroup group) (servesSource source)
+    ∙ stands-for at (bestWith (λ p. rankOf source group (at p)) place (best 0 0) n) _ _ _
+    (stands at place (asBoth source group) (asGroup source group) (asSource source) n right)
 
--- a rank above 0 has its place among the routes
-pub best-within : (rank : ℕ → ℕ) (n : ℕ) → 0 < bestOf rank n .rank → bestOf rank n .at < n
-unfolding bestOf better
-best-within rank zero = λ h. absurd (omega arith)
-best-within rank (suc n) =
-    cond-cases (λ (b : Best). 0 < b .rank → b .at < suc n) (ltb (bestOf rank n .rank) (rank n)) (best (rank n) n) (bestOf rank n)
-    (λ e h. omega arith)
-    (λ e h. omega (arith, best-within rank n h))
+-- what has a rank above 0 is one of the first n, by its number
+pub record Numbered (place : ℕ → ℕ) (n at : ℕ) : Type 0 where
+  pub number : ℕ
+  pub there : number < n
+  pub is : at ≡ place number
+
+pub best-numbered : (rank place : ℕ → ℕ) (n : ℕ) → 0 < bestWith rank place (best 0 0) n .rank → Numbered place n (bestWith rank place (best 0 0) n .at)
+unfolding bestWith better
+best-numbered rank place zero = λ h. absurd (omega arith)
+best-numbered rank place (suc n) =
+    let b : Best = bestWith rank place (best 0 0) n in
+    cond-cases (λ (c : Best). 0 < c .rank → Numbered place (suc n) (c .at)) (ltb (b .rank) (rank (place n))) (best (rank (place n)) (place n)) b
+    (λ e h. record { number = n; there = omega arith; is = refl })
+    (λ e h. let m = best-numbered rank place n h in record { number = m .number; there = omega (arith, m .there); is = m .is })

@@ -5,6 +5,7 @@ use mathlib.Core.List.{List, [], _∷_, _++_}
 use mathlib.Core.Path.{_≡_, refl, ap, _∙_}
 use native.Mathlib.Omega.{arith}
 use native.Mathlib.Nat.{zero-add, add-zero}
+use native.Mathlib.Numerals.{add-one}
 use lib.Dec.{eqb}
 use lib.ListN.{length}
 use borrow.Author.Tests.{eq-eqb, ne-eqb, eqb-true}
@@ -18,14 +19,14 @@ use Rattle.route_entry.proofs.Laws.{route-kept}
 use Rattle.sheet.specs.declared.layout.Layout.{Layout}
 use Rattle.sheet.specs.Every.{listed}
 use Rattle.sheet.specs.Sheet.{layoutOf}
-use Rattle.sheet.specs.Tables.{routeOf, routesOf}
-use Rattle.sheet.specs.Inside.{Beside}
-use Rattle.sheet.proofs.Laws.{route-keeps}
+use Rattle.sheet.specs.Tables.{placeOf, routePlace, routeOf, routesOf}
+use Rattle.sheet.specs.Inside.{routesBeside, Beside}
+use Rattle.sheet.proofs.Laws.{route-keeps, route-bytes, beside-place}
 use Rattle.route.specs.declared.Best.{Best}
 use Rattle.route.specs.declared.Chosen.the-variants.{Found, Nothing}
 use Rattle.route.specs.Choice.{servesGroup, whichRoute}
-use Rattle.route.specs.Inside.{asGroup, rankOf, ranksIn, better, bestOf}
-use Rattle.route.proofs.Ranks.{firstRoutes, chosen-by-rank, best-within}
+use Rattle.route.specs.Inside.{asGroup, rankAt, better, bestWith, bestOf}
+use Rattle.route.proofs.Ranks.{firstRoutes, chosen-by-rank, Numbered, best-numbered}
 
 above : (n : ℕ) → (n ≡ 0 → ⊥) → 0 < n
 above zero f = absurd (f refl)
@@ -53,39 +54,56 @@ module _ (s : List ℕ) (at interfaces : ℕ) (ok : routeOk interfaces (routeAt 
   read-short bits e = rw e kept-short
 
 -- one turn over routes that stand side by side
-module _ {F : Format} (s : List ℕ) (first at count : ℕ) (beside : Beside F s first at count) where
+module _ {F : Format} (s : List ℕ) (at count : ℕ) (beside : Beside F s at count) where
   pub beside-within : Sound F → (j : ℕ) → j < count → at + F.route * j + routeFields ≤ length s
   beside-within sound j h = omega (arith, beside .bytes j h)
 
-  pub beside-kept : Sound F → (j : ℕ) → j < count → routeOk (layoutOf F s .interfaces) (routeAt s (at + F.route * j)) ≡ true
-  beside-kept sound j h = rw (← (beside .each j h)) (route-keeps sound s (first + j) (omega (arith, beside .there)))
+  pub beside-kept : (j : ℕ) → j < count → routeOk (layoutOf F s .interfaces) (routeAt s (at + F.route * j)) ≡ true
+  beside-kept j h = beside .kept j h
 
-  module _ (source group : ℕ) where
-    pub best-more : (b b′ : Best) (j : ℕ) → b ≡ bestOf (ranksIn F s source group) (first + j) → j < count
-        → b′ ≡ better b (rankOf source group (routeAt s (at + F.route * j))) (first + j) → b′ ≡ bestOf (ranksIn F s source group) (first + (j + 1))
-    unfolding bestOf ranksIn
-    best-more b b′ j e h f = let n : first + (j + 1) ≡ suc (first + j) = omega arith in f ∙ rw (n, beside .each j h, ← e)
+-- before the first turn, with one more, and after the last
+module _ (rank place : ℕ → ℕ) (before : Best) where
+  pub best-start : before ≡ bestWith rank place before 0
+  unfolding bestWith
+  best-start = refl
 
--- before the first turn and after the last
-module _ (F : Format) (s : List ℕ) (source group first : ℕ) (b : Best) where
-  pub best-start : b ≡ bestOf (ranksIn F s source group) first → b ≡ bestOf (ranksIn F s source group) (first + 0)
-  best-start e = rw add-zero e
+  pub best-more : (b b′ : Best) (j : ℕ) → b ≡ bestWith rank place before j → b′ ≡ better b (rank (place j)) (place j)
+      → b′ ≡ bestWith rank place before (j + 1)
+  unfolding bestWith
+  best-more b b′ j e f = f ∙ rw (add-one, ← e)
 
-  pub best-end : (j count : ℕ) → b ≡ bestOf (ranksIn F s source group) (first + j) → j ≤ count → count ≤ j
-      → b ≡ bestOf (ranksIn F s source group) (first + count)
-  best-end j count e h g = let q : j ≡ count = omega arith in rw q at e
+  pub best-end : (b : Best) (j count : ℕ) → b ≡ bestWith rank place before j → j ≤ count → count ≤ j → b ≡ bestWith rank place before count
+  best-end b j count e h g = let q : j ≡ count = omega arith in rw q at e
+
+-- a block of routes more: they stand side by side
+module _ {F : Format} (sound : Sound F) (s : List ℕ) (l : Layout) (k : ℕ) (layout : l ≡ layoutOf F s) (there : k < l .routes) (at count : ℕ)
+    (placed : at ≡ placeOf F.route (l .blocks) k) (beside : count ≡ routesBeside F (l .routes) k) (source group : ℕ) where
+  some-more : (n : ℕ) → n ≤ count → bestWith (rankAt s source group) (λ j. at + F.route * j) (bestOf F s source group k) n ≡ bestOf F s source group (k + n)
+  unfolding bestWith
+  some-more zero h = rw add-zero
+  some-more (suc n) h =
+      let e : k + suc n ≡ suc (k + n) = omega arith in
+      rw (e, some-more n (omega arith), beside-place sound s l k layout there at count placed beside n (omega arith))
+
+  pub block-more : (b b′ : Best) → b ≡ bestOf F s source group k → b′ ≡ bestWith (rankAt s source group) (λ j. at + F.route * j) b count
+      → b′ ≡ bestOf F s source group (k + count)
+  block-more b b′ e f = f ∙ rw e (some-more count (omega arith))
 
 module _ (F : Format) (s : List ℕ) (l : Layout) (layout : l ≡ layoutOf F s) (source group : ℕ) where
-  pub best-all : (b : Best) (k : ℕ) → b ≡ bestOf (ranksIn F s source group) k → k ≤ l .routes → l .routes ≤ k
-      → b ≡ bestOf (ranksIn F s source group) (layoutOf F s .routes)
+  pub best-all : (b : Best) (k : ℕ) → b ≡ bestOf F s source group k → k ≤ l .routes → l .routes ≤ k
+      → b ≡ bestOf F s source group (layoutOf F s .routes)
   best-all b k e h g = let q : k ≡ l .routes = omega arith in e ∙ rw (q, layout)
 
-  -- the route that was found is one of the sheet's
-  pub chosen-there : (b : Best) → b ≡ bestOf (ranksIn F s source group) (layoutOf F s .routes) → (b .rank ≡ 0 → ⊥) → b .at < l .routes
-  chosen-there b e some =
-      rw (e, layout) (best-within (ranksIn F s source group) (layoutOf F s .routes) (rw e at (above (b .rank) some)))
-
 module _ {F : Format} (sound : Sound F) (s : List ℕ) (source group : ℕ) where
+  -- the route that was found is one of the sheet's
+  pub chosen-numbered : (b : Best) → b ≡ bestOf F s source group (layoutOf F s .routes) → (b .rank ≡ 0 → ⊥)
+      → Numbered (routePlace F s) (layoutOf F s .routes) (b .at)
+  chosen-numbered b e some =
+      rw e (best-numbered (rankAt s source group) (routePlace F s) (layoutOf F s .routes) (rw e at (above (b .rank) some)))
+
+  pub chosen-there : (b : Best) → b ≡ bestOf F s source group (layoutOf F s .routes) → (b .rank ≡ 0 → ⊥) → b .at + routeFields ≤ length s
+  chosen-there b e some = let n = chosen-numbered b e some in rw (n .is) (omega (arith, route-bytes sound s (n .number) (n .there)))
+
   right-routes : (k : ℕ) → k < layoutOf F s .routes
       → (asGroup source group (routeOf F s k) ≡ true → routeOf F s k .length ≡ 0) × (routeOf F s k .length ≤ addressBits)
   unfolding servesGroup
@@ -93,16 +111,17 @@ module _ {F : Format} (sound : Sound F) (s : List ℕ) (source group : ℕ) wher
       let kept = route-kept _ _ (route-keeps sound s k h) in
       (λ e. kept .whole (eqb-true (routeOf F s k .kind) groupOnly (search parts depth 8)), kept .short)
 
-  pub by-rank : whichRoute (routesOf F s) source group
-      ≡ cond (eqb (bestOf (ranksIn F s source group) (layoutOf F s .routes) .rank) 0) Nothing
-      (Found (routeOf F s (bestOf (ranksIn F s source group) (layoutOf F s .routes) .at)))
-  unfolding routesOf ranksIn
-  by-rank = rw (listed-first (routeOf F s) (layoutOf F s .routes)) (chosen-by-rank (routeOf F s) (layoutOf F s .routes) source group right-routes)
+  pub by-rank : let b = bestOf F s source group (layoutOf F s .routes) in
+      whichRoute (routesOf F s) source group ≡ cond (eqb (b .rank) 0) Nothing (Found (routeAt s (b .at)))
+  unfolding routesOf routeOf rankAt
+  by-rank =
+      rw (listed-first (routeOf F s) (layoutOf F s .routes))
+      (chosen-by-rank (routeAt s) (routePlace F s) (layoutOf F s .routes) source group right-routes)
 
-  pub chosen-none : (b : Best) → b ≡ bestOf (ranksIn F s source group) (layoutOf F s .routes) → b .rank ≡ 0
+  pub chosen-none : (b : Best) → b ≡ bestOf F s source group (layoutOf F s .routes) → b .rank ≡ 0
       → Nothing ≡ whichRoute (routesOf F s) source group
   chosen-none b e z = rw (by-rank, ← e, eq-eqb (b .rank) 0 z)
 
-  pub chosen-some : (b : Best) (r : Route) → b ≡ bestOf (ranksIn F s source group) (layoutOf F s .routes) → (b .rank ≡ 0 → ⊥)
-      → r ≡ routeOf F s (b .at) → Found r ≡ whichRoute (routesOf F s) source group
+  pub chosen-some : (b : Best) (r : Route) → b ≡ bestOf F s source group (layoutOf F s .routes) → (b .rank ≡ 0 → ⊥)
+      → r ≡ routeAt s (b .at) → Found r ≡ whichRoute (routesOf F s) source group
   chosen-some b r e z f = rw (by-rank, ← e, ne-eqb (b .rank) 0 z, f)

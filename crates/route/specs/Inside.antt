@@ -9,10 +9,10 @@ use Rattle.wire.specs.Addresses.{allOnes}
 use Rattle.format.specs.declared.Format.{Format}
 use Rattle.prefix.specs.Prefix.{addressBits, samePrefix}
 use Rattle.interface.specs.Interface.{isMulticast}
-use Rattle.route_entry.specs.Route.{groupOnly, sourceOnly}
+use Rattle.route_entry.specs.Route.{groupOnly, sourceOnly, routeAt}
 use Rattle.interface.specs.declared.Interface.{Interface}
 use Rattle.route_entry.specs.declared.Route.{Route}
-use Rattle.sheet.specs.Tables.{routeOf}
+use Rattle.sheet.specs.Tables.{routePlace}
 use Rattle.route.specs.declared.Best.{Best}
 use Rattle.route.specs.Choice.{servesBoth, servesGroup, servesSource}
 
@@ -49,9 +49,9 @@ asSource source r = not (allOnes source) && servesSource source r
 abbrev pub rankOf : ℕ → ℕ → Route → ℕ
 rankOf source group = rankBy (asBoth source group) (asGroup source group) (asSource source)
 
--- the ranks of a sheet's routes
-unfoldable pub ranksIn : Format → List ℕ → ℕ → ℕ → ℕ → ℕ
-ranksIn F sheet source group k = rankOf source group (routeOf F sheet k)
+-- the rank of the route at a place of a sheet
+unfoldable pub rankAt : List ℕ → ℕ → ℕ → ℕ → ℕ
+rankAt sheet source group at = rankOf source group (routeAt sheet at)
 
 -- there is a source, and the route's source prefix matches it
 unfoldable pub ofSource : ℕ → Route → Bool
@@ -71,14 +71,18 @@ rankAs kind bits = cond (eqb kind groupOnly) (groupRank + bits) (cond (eqb kind 
 abbrev pub best : ℕ → ℕ → Best
 best rank at = record { rank = rank; at = at }
 
--- the route at k takes the place of the best so far only if its rank is higher
+-- the route at a place is the best from then on only if its rank is higher than that of the best so far
 unfoldable pub better : Best → ℕ → ℕ → Best
-better b rank k = cond (ltb (b .rank) rank) (best rank k) b
+better b rank at = cond (ltb (b .rank) rank) (best rank at) b
 
--- the best of the first n routes
-unfoldable pub bestOf : (ℕ → ℕ) → ℕ → Best
-bestOf rank zero = best 0 0
-bestOf rank (suc n) = better (bestOf rank n) (rank n) n
+-- the best so far with n routes more, by the rank at a place and by their places
+unfoldable pub bestWith : (ℕ → ℕ) → (ℕ → ℕ) → Best → ℕ → Best
+bestWith rank place b zero = b
+bestWith rank place b (suc n) = better (bestWith rank place b n) (rank (place n)) (place n)
+
+-- the best of the first n routes of a sheet
+abbrev pub bestOf : Format → List ℕ → ℕ → ℕ → ℕ → Best
+bestOf F sheet source group n = bestWith (rankAt sheet source group) (routePlace F sheet) (best 0 0) n
 
 -- what is left of a map has its lowest bit set, and the interface of that bit is multicast and has the client in its subnet
 unfoldable pub reachesBy : ℕ → ℕ → Interface → Bool

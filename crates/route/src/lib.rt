@@ -4,7 +4,7 @@ use route_entry::Route;
 use sheet::Layout;
 ghost use mathlib.Core.Bool.{true};
 ghost use mathlib.Core.Path.{_≡_};
-ghost use Prim.Native.Nat.{_+_, _≤_, _<_};
+ghost use Prim.Native.Nat.{_+_, _*_, _≤_, _<_};
 ghost use lib.ListN.{length};
 ghost use Rattle.prefix.specs.Prefix.{addressBits};
 ghost use Rattle.format.specs.Sizes.{Sound, routeFields};
@@ -14,7 +14,7 @@ ghost use Rattle.sheet.specs.Tables.{interfaceOf, routesOf};
 ghost use Rattle.sheet.specs.Inside.{Beside};
 ghost use Rattle.route.specs.Choice.{whichRoute};
 ghost use Rattle.route.specs.LastHop.{someReaches, properLastHop};
-ghost use Rattle.route.specs.Inside.{ofSource, serves, rankAs, rankOf, ranksIn, better, bestOf, reachesBy};
+ghost use Rattle.route.specs.Inside.{ofSource, serves, rankAs, rankAt, better, bestWith, bestOf, reachesBy};
 
 // The lowest rank of kind 3.
 const SOURCE_RANK: usize = 1;
@@ -31,7 +31,8 @@ pub enum Chosen {
     Nothing,
 }
 
-// The highest rank so far, and the place of the first route that has it: two words, with no bytes between to be carried along.
+// The highest rank so far, and where in the sheet the first route that has it begins: two words, with no bytes between to be carried
+// along. The route is read there in the end, and no turn counts routes beside their places.
 struct Best {
     rank: usize,
     at: usize,
@@ -82,20 +83,20 @@ fn rank(kind: u8, bits: usize) -> usize
     BOTH_RANK + bits
 }
 
-// The best so far, with the route at `k` and its rank.
-fn better(b: Best, rank: usize, k: usize) -> Best
-    ensures { λ r. ⌜ r ≡ better b rank k ⌝ }
+// The best so far, with the route at a place and its rank.
+fn better(b: Best, rank: usize, at: usize) -> Best
+    ensures { λ r. ⌜ r ≡ better b rank at ⌝ }
 {
     if b.rank < rank {
-        return Best { rank, at: k };
+        return Best { rank, at };
     }
     b
 }
 
-// The best so far, with the route at a place, which is route `k`.
-fn best_with(f: Format, b: Best, s: &[u8], at: usize, k: usize, source: u32, group: u32) -> Best
+// The best so far, with the route at a place.
+fn best_with(f: Format, b: Best, s: &[u8], at: usize, source: u32, group: u32) -> Best
     requires { ⌜ (at + routeFields ≤ length (now s)) × (routeOk (layoutOf f (now s) .interfaces) (routeAt (now s) at) ≡ true) ⌝ }
-    ensures { λ r. ⌜ r ≡ better b (rankOf source group (routeAt (now (s .entry)) at)) k ⌝ }
+    ensures { λ r. ⌜ r ≡ better b (rankAt (now (s .entry)) source group at) at ⌝ }
 {
     if !serves(s, at, source, group) {
         return b;
@@ -106,30 +107,28 @@ fn best_with(f: Format, b: Best, s: &[u8], at: usize, k: usize, source: u32, gro
             route_entry::kind_at(s, at),
             route_entry::length_at(s, at) as usize,
         ),
-        k,
+        at,
     )
 }
 
-// One pass over routes that stand side by side, so many from route `first` on; `at` is its place.
+// The best so far, with so many routes that stand side by side from a place on: one pass over them.
 fn best_in(
     f: Format,
     s: &[u8],
     at: usize,
-    first: usize,
     count: usize,
     before: Best,
     source: u32,
     group: u32,
 ) -> Best
     requires { ⌜ Sound f ⌝ }
-    requires { ⌜ Beside f (now s) first at count ⌝ }
-    requires { ⌜ before ≡ bestOf (ranksIn f (now s) source group) first ⌝ }
-    ensures { λ b. ⌜ b ≡ bestOf (ranksIn f (now (s .entry)) source group) (first + count) ⌝ }
+    requires { ⌜ Beside f (now s) at count ⌝ }
+    ensures { λ b. ⌜ b ≡ bestWith (rankAt (now (s .entry)) source group) (λ j. at + f .route * j) before count ⌝ }
 {
     let mut b = before;
     let mut j: usize = 0;
     while j < count {
-        b = best_with(f, b, s, at + f.route * j, first + j, source, group);
+        b = best_with(f, b, s, at + f.route * j, source, group);
         j += 1;
     }
     b
@@ -139,22 +138,13 @@ fn best_in(
 fn best_of(f: Format, s: &[u8], l: Layout, source: u32, group: u32) -> Best
     requires { ⌜ Sound f ⌝ }
     requires { ⌜ l ≡ layoutOf f (now s) ⌝ }
-    ensures { λ b. ⌜ b ≡ bestOf (ranksIn f (now (s .entry)) source group) (layoutOf f (now (s .entry)) .routes) ⌝ }
+    ensures { λ b. ⌜ b ≡ bestOf f (now (s .entry)) source group (layoutOf f (now (s .entry)) .routes) ⌝ }
 {
     let mut b = Best { rank: 0, at: 0 };
     let mut k: usize = 0;
     while k < l.routes {
         let count = sheet::routes_beside(f, l, k);
-        b = best_in(
-            f,
-            s,
-            sheet::route_place(f, l, k),
-            k,
-            count,
-            b,
-            source,
-            group,
-        );
+        b = best_in(f, s, sheet::route_place(f, l, k), count, b, source, group);
         k += count;
     }
     b
@@ -170,7 +160,7 @@ pub fn choose(f: Format, s: &[u8], l: Layout, source: u32, group: u32) -> Chosen
     if b.rank == 0 {
         return Chosen::Nothing;
     }
-    Chosen::Found(sheet::route(f, s, l, b.at))
+    Chosen::Found(route_entry::route_at(s, b.at))
 }
 
 // Whether interface `k` has the lowest bit of what is left of a map, is multicast, and has the client in its subnet.

@@ -3,7 +3,6 @@ use mathlib.Core.Path.{_≡_}
 use Rattle.wire.proofs.Laws.{both-are}
 use Rattle.sheet.proofs.layout.check.Reads as check
 use Rattle.sheet.proofs.tables.interface_place.Reads as interface-place
-use Rattle.sheet.proofs.tables.route.Reads as route
 use Rattle.sheet.proofs.tables.route_place.Reads as route-place
 use Rattle.sheet.proofs.tables.routes_beside.Reads as routes-beside
 use Rattle.sheet.proofs.tables.prohibited.Reads as prohibited
@@ -17,9 +16,6 @@ check-determined κs a x y e f p q = both-are p q
 
 pub interface-place-determined : (κs : _) (a : _) (x y : _) (e f : _) → interface-place.Post κs a x e → interface-place.Post κs a y f → x ≡ y
 interface-place-determined κs a x y e f p q = both-are p q
-
-pub route-determined : (κs : _) (a : _) (x y : _) (e f : _) → route.Post κs a x e → route.Post κs a y f → x ≡ y
-route-determined κs a x y e f p q = both-are p q
 
 pub route-place-determined : (κs : _) (a : _) (x y : _) (e f : _) → route-place.Post κs a x e → route-place.Post κs a y f → x ≡ y
 route-place-determined κs a x y e f p q = both-are p q

@@ -7,7 +7,8 @@ pub use Rattle.sheet.proofs.Entries.{interface-valid, interface-few, in
 -- where an interface stands, and that what is read there is that interface
 pub use Rattle.sheet.proofs.Reading.{place-within, interface-told}
 -- where a route stands, and those beside it up to the end of its block, of which there are some
-pub use Rattle.sheet.proofs.Reading.{route-placed, routes-beside, beside-some}
+pub use Rattle.sheet.proofs.Entries.{route-bytes}
+pub use Rattle.sheet.proofs.Reading.{route-placed, route-within, routes-beside, beside-place, beside-some}
 -- a valid sheet has a first block, in which its switches stand
 pub use Rattle.sheet.proofs.Reading.{valid-long}
 -- who holds an address: an interface of the sheet, the lowest that does; nobody only where none does

@@ -2,7 +2,7 @@
 use Prim.Native.Nat.{ℕ, _+_, _-_, _≤_, _<_}
 use mathlib.Core.Bool.{Bool, true, false, not}
 use mathlib.Core.List.{List}
-use mathlib.Core.Path.{_≡_, refl, sym, _∙_}
+use mathlib.Core.Path.{_≡_, sym, _∙_}
 use native.Mathlib.Omega.{arith}
 use lib.ListN.{length}
 use borrow.Author.Tests.{le-leb, not-true, not-false}
@@ -11,17 +11,12 @@ use Rattle.block.specs.Block.{blockSize, entriesEach}
 use Rattle.format.specs.declared.Format.{Format}
 use Rattle.interface.specs.Interface.{mostInterfaces}
 use Rattle.sheet.specs.Every.{every}
-use Rattle.sheet.specs.Sheet.{mostBlocks, sheetSizeOk, blocks, interfaceBlocks, entriesIn, interfacesIn, routesIn, blockOkAt, validSheet, noLayout, counted, layoutOf}
-use Rattle.sheet.specs.Inside.{Leading, blockOkWith}
+use Rattle.sheet.specs.Sheet.{mostBlocks, sheetSizeOk, blocks, interfaceBlocks, entriesIn, interfacesIn, routesIn, blockOkWith, blockOkAt, validSheet, noLayout, counted, layoutOf}
+use Rattle.sheet.specs.Inside.{Leading}
 use Rattle.sheet.specs.declared.layout.Layout.{Layout}
 use Rattle.sheet.proofs.Valid.{Valid, valid}
 use Rattle.sheet.proofs.Entries.{layout-cases, layout-valid}
 use Rattle.sheet.proofs.Leading.{leading-all, leading-valid}
-
--- the rules on a block, with the sheet's own interface blocks and interfaces
-same-rules : (F : Format) (s : List ℕ) → blockOkAt F s ≡ blockOkWith F s (interfaceBlocks s) (interfacesIn F s)
-unfolding blockOkAt blockOkWith
-same-rules F s = refl
 
 -- a sheet that cannot be valid
 refused : (F : Format) (s : List ℕ) (r : Layout) → (Valid F s → ⊥) → r ≡ noLayout → r ≡ layoutOf F s
@@ -58,7 +53,7 @@ module _ (s : List ℕ) (size : Bool) (es : size ≡ sheetSizeOk (length s)) whe
 
           module _ (few : interfaces ≤ mostInterfaces) (ok : Bool) (eo : ok ≡ every (blockOkWith F s m interfaces) (blocks s)) where
             told : m ≡ interfaceBlocks s → ok ≡ every (blockOkAt F s) (blocks s)
-            told e = eo ∙ rw (same-rules F s, ← e, ← interfaces-told e)
+            told e = eo ∙ rw (← e, ← interfaces-told e)
 
             pub bad-block : (r : Layout) → not ok ≡ true → r ≡ noLayout → r ≡ layoutOf F s
             bad-block r k = refused F s r (λ v. let z : _≡_ {A = ℕ} 0 1 = cc (told (leading-valid F s m lead v), v .all, not-true ok k) in omega arith)

@@ -1,6 +1,6 @@
 -- The interface blocks that stand first are all of them: in a valid sheet, and where every block keeps its rules with as many.
 use Prim.Native.Nat.{ℕ, zero, suc, _+_, _*_, _-_, _≤_, _<_}
-use mathlib.Core.Bool.{Bool, true}
+use mathlib.Core.Bool.{Bool, true, false, not}
 use mathlib.Core.List.{List}
 use mathlib.Core.Logic.{⊎-elim}
 use mathlib.Core.Path.{_≡_, refl, sym, _∙_}
@@ -8,16 +8,16 @@ use native.Mathlib.Omega.{arith}
 use native.Mathlib.Nat.{add-sub-cancel-left, eq-or-lt-of-le}
 use lib.Dec.{ltb, eqb}
 use lib.ListN.{take, drop}
-use borrow.Author.Tests.{lt-ltb, le-ltb, eq-eqb, ne-eqb, eqb-true, ltb-true, ltb-false}
+use borrow.Author.Tests.{lt-ltb, le-ltb, eq-eqb, ne-eqb, eqb-true, ltb-true, ltb-false, not-true, not-false}
 use Rattle.rows.proofs.Laws.{decided, parts}
 use Rattle.wire.specs.Numbers.{byteAt}
 use Rattle.block.specs.Block.{blockSize, kindOf, frameOk}
 use Rattle.format.specs.declared.Format.{Format}
 use Rattle.sheet.specs.Every.{every}
 use Rattle.sheet.specs.Rules.{interfaceKind, routeKind, interfaceRight, routeRight, blockOk}
-use Rattle.sheet.specs.Sheet.{blocks, sheetBlock, interfaceBlocksIn, interfaceBlocks, interfacesIn, blockOkAt}
-use Rattle.sheet.specs.Inside.{Leading, blockOkWith}
-use Rattle.sheet.proofs.Numbered.{every-one}
+use Rattle.sheet.specs.Sheet.{blocks, sheetBlock, interfaceBlocksIn, interfaceBlocks, interfacesIn, interfaceBlockOk, routeBlockOk, blockOkWith}
+use Rattle.sheet.specs.Inside.{Leading}
+use Rattle.sheet.proofs.Numbered.{every-one, every-short, every-same}
 use Rattle.sheet.proofs.Valid.{Valid}
 
 -- the blocks before k are interface blocks; one more, and the end of them
@@ -33,18 +33,35 @@ other-next s n k x before h e f = record { within = omega arith; first = before;
 pub none-next : (s : List ℕ) (n k : ℕ) → FirstOnes s k → k ≤ n → n ≤ k → Leading s n k
 none-next s n k before h e = record { within = h; first = before; next = λ l z. omega arith }
 
--- a block by its number, where there are m interface blocks
-pub interface-block : (F : Format) (s : List ℕ) (k m interfaces : ℕ) (x : Bool) → k < m
+-- a block by its number
+pub interface-block : (F : Format) (s : List ℕ) (k m : ℕ) (x : Bool)
     → x ≡ blockOk interfaceKind F.interface (interfaceRight F) k (eqb (k + 1) m) (take (blockSize * k + blockSize - blockSize * k) (drop (blockSize * k) s))
-    → x ≡ blockOkWith F s m interfaces k
-unfolding blockOkWith
-interface-block F s k m interfaces x h f = rw (lt-ltb k m h) (rw add-sub-cancel-left at f)
+    → x ≡ interfaceBlockOk F s m k
+unfolding interfaceBlockOk
+interface-block F s k m x f = rw add-sub-cancel-left at f
 
-pub route-block : (F : Format) (s : List ℕ) (k m interfaces : ℕ) (x : Bool) → m ≤ k
+pub route-block : (F : Format) (s : List ℕ) (k interfaces : ℕ) (x : Bool)
     → x ≡ blockOk routeKind F.route (routeRight interfaces) k (eqb (k + 1) (blocks s)) (take (blockSize * k + blockSize - blockSize * k) (drop (blockSize * k) s))
-    → x ≡ blockOkWith F s m interfaces k
-unfolding blockOkWith
-route-block F s k m interfaces x h f = rw (le-ltb k m h) (rw add-sub-cancel-left at f)
+    → x ≡ routeBlockOk F s interfaces k
+unfolding routeBlockOk
+route-block F s k interfaces x f = rw add-sub-cancel-left at f
+
+-- where there are m interface blocks, the first m keep the rules of those, and each behind them those of a route block
+module _ (F : Format) (s : List ℕ) (m interfaces : ℕ) where
+  first-kind : every (interfaceBlockOk F s m) m ≡ every (blockOkWith F s m interfaces) m
+  unfolding blockOkWith
+  first-kind = every-same (interfaceBlockOk F s m) (blockOkWith F s m interfaces) m (λ k h. rw (lt-ltb k m h))
+
+  pub second-kind : (k : ℕ) (x : Bool) → m ≤ k → x ≡ routeBlockOk F s interfaces k → x ≡ blockOkWith F s m interfaces k
+  unfolding blockOkWith
+  second-kind k x h e = rw (le-ltb k m h) e
+
+  module _ (x : Bool) (told : x ≡ every (interfaceBlockOk F s m) m) where
+    pub first-kept : not x ≡ false → true ≡ every (blockOkWith F s m interfaces) m
+    first-kept e = sym (not-false x e) ∙ told ∙ first-kind
+
+    pub first-broken : not x ≡ true → m ≤ blocks s → false ≡ every (blockOkWith F s m interfaces) (blocks s)
+    first-broken e h = sym (every-short (blockOkWith F s m interfaces) m (blocks s) h (sym (told ∙ first-kind) ∙ not-true x e))
 
 -- blocks that are all counted, and blocks of which none is
 all-counted : (s : List ℕ) (n : ℕ) → FirstOnes s n → interfaceBlocksIn s n ≡ n
@@ -74,7 +91,7 @@ block-kind kind size number right partly b e = eqb-true (kindOf b) kind (search 
 module _ (F : Format) (s : List ℕ) (m : ℕ) (lead : Leading s (blocks s) m) where
   -- every block keeps its rules: behind the first m there are route blocks alone
   pub leading-all : (interfaces : ℕ) → every (blockOkWith F s m interfaces) (blocks s) ≡ true → m ≡ interfaceBlocks s
-  unfolding interfaceBlocks blockOkWith
+  unfolding interfaceBlocks blockOkWith routeBlockOk
   leading-all interfaces kept =
       let n : ℕ = blocks s - m in
       let e : blocks s ≡ m + n = omega (arith, lead .within) in
@@ -85,7 +102,7 @@ module _ (F : Format) (s : List ℕ) (m : ℕ) (lead : Leading s (blocks s) m) w
 
   -- the sheet is valid: the next block is no interface block, and each of the first is one
   pub leading-valid : Valid F s → m ≡ interfaceBlocks s
-  unfolding blockOkAt
+  unfolding blockOkWith interfaceBlockOk routeBlockOk
   leading-valid v =
       let M : ℕ = interfaceBlocks s in
       neither m M

@@ -1,7 +1,7 @@
 -- Tests of things numbered from 0.
 use Prim.Native.Nat.{ℕ, zero, suc, _+_, _≤_, _<_}
 use mathlib.Core.Bool.{Bool, true, false, not}
-use mathlib.Core.Path.{_≡_, sym, ap, _∙_}
+use mathlib.Core.Path.{_≡_, refl, sym, ap, _∙_}
 use mathlib.Core.Logic.{⊎-elim}
 use native.Mathlib.Omega.{arith}
 use native.Mathlib.Numerals.{add-one}
@@ -31,3 +31,16 @@ every-one test (suc n) k e h =
 pub every-stops : (test : ℕ → Bool) (x : Bool) (n k : ℕ) → x ≡ test k → not x ≡ true → k < n → false ≡ every test n
 every-stops test x n k e f h =
     ⊎-elim (λ all. cc (every-one test n k all h, not-true x f)) sym (decided (every test n))
+
+-- one that fails among the first fails them all
+pub every-short : (test : ℕ → Bool) (m n : ℕ) → m ≤ n → every test m ≡ false → every test n ≡ false
+unfolding every
+every-short test m zero h e = let q : m ≡ 0 = omega arith in rw q at e
+every-short test m (suc n) h e =
+    ⊎-elim (λ (q : m ≡ suc n). rw q at e) (λ (l : m < suc n). rw (every-short test m n (omega arith) e)) (eq-or-lt-of-le {n = m} {m = suc n} h)
+
+-- two tests that agree on each
+pub every-same : (test other : ℕ → Bool) (n : ℕ) → ((k : ℕ) → k < n → test k ≡ other k) → every test n ≡ every other n
+unfolding every
+every-same test other zero same = refl
+every-same test other (suc n) same = rw (every-same test other n (λ k h. same k (omega arith)), same n (omega arith))

@@ -5,7 +5,7 @@ use mathlib.Core.List.{List}
 use mathlib.Core.Logic.{⊎-elim}
 use mathlib.Core.Path.{_≡_, sym, ap, _∙_}
 use native.Mathlib.Omega.{arith}
-use native.Mathlib.Nat.{zero-add, mul-add, mul-le-mul, mul-le-mul-left, mul-le-mul-right, mod-lt, mod-le, mod-add-mod, mod-eq-of-lt, div-le-self, div-eq-of-lt, div-add-mod', add-mul-div-right, le-div-iff-mul-le, div-lt-iff-lt-mul, eq-or-lt-of-le}
+use native.Mathlib.Nat.{zero-add, mul-add, mul-le-mul, mod-lt, mod-le, mod-add-mod, mod-eq-of-lt, div-le-self, div-eq-of-lt, div-add-mod', add-mul-div-right, le-div-iff-mul-le, div-lt-iff-lt-mul, eq-or-lt-of-le}
 use lib.Dec.{eqb}
 use lib.ListN.{length}
 use borrow.Author.Tests.{ne-eqb}
@@ -20,16 +20,11 @@ use Rattle.sheet.proofs.Valid.{Run}
 pub some-room : (size : ℕ) → 0 < size → size ≤ entriesRoom → 0 < entriesEach size
 some-room size some most = omega (arith, le-div-iff-mul-le {k = size} {x = 1} {y = entriesRoom} some .1 (omega arith))
 
--- the place of an entry with a low number is low, and past that number
+-- the place of an entry with a low number is low
 pub place-low : (size i most : ℕ) → size ≤ entriesRoom → i ≤ most → placeOf size 0 i ≤ blockSize * most + (entriesAt + entriesRoom * most)
 place-low size i most h k =
     let j : i % entriesEach size ≤ most = omega (arith, mod-le i (entriesEach size)) in
     omega (arith, div-le-self i (entriesEach size), mul-le-mul h j)
-
-pub place-past : (size first i : ℕ) → 0 < size → i < placeOf size first i
-place-past size first i some =
-    let each : ℕ = entriesEach size in
-    omega (arith, div-add-mod' i each, mul-le-mul-left (i / each) (div-le-self entriesRoom size), mul-le-mul-right (i % each) some)
 
 -- entries of one block stand side by side
 module _ (size i j : ℕ) (near : j < entriesEach size - i % entriesEach size) where

@@ -1,8 +1,8 @@
 -- The tables as the code reads them: at the layout's places, and from interface to interface for who holds an address.
-use Prim.Native.Nat.{ℕ, suc, _+_, _*_, _-_, _%_, _≤_, _<_, min}
+use Prim.Native.Nat.{ℕ, suc, _+_, _*_, _-_, _%_, _≤_, _<_}
 use mathlib.Core.Bool.{true, cond}
 use mathlib.Core.List.{List}
-use mathlib.Core.Path.{_≡_, refl, sym, ap, _∙_}
+use mathlib.Core.Path.{_≡_, sym, ap, _∙_}
 use native.Mathlib.Omega.{arith}
 use native.Mathlib.Nat.{sub-zero, mod-lt}
 use lib.Dec.{eqb}
@@ -14,20 +14,18 @@ use Rattle.block.specs.Block.{blockSize, switchesAt, entriesRoom, entriesEach}
 use Rattle.format.specs.Sizes.{Sound, interfaceFields, routeFields}
 use Rattle.format.specs.declared.Format.{Format}
 use Rattle.interface.specs.Interface.{mostInterfaces, interfaceAt}
-use Rattle.route_entry.specs.Route.{routeAt}
 use Rattle.interface.specs.declared.Interface.{Interface}
-use Rattle.route_entry.specs.declared.Route.{Route}
 use Rattle.sheet.specs.Every.{listed}
 use Rattle.sheet.specs.Rules.{prohibits}
 use Rattle.sheet.specs.Sheet.{mostBlocks, interfaceBlocks, counted, layoutOf}
-use Rattle.sheet.specs.Tables.{placeOf, interfaceOf, routeOf, interfacesOf, prohibitedOf, holderFrom, holderOf}
-use Rattle.sheet.specs.Inside.{Beside}
+use Rattle.sheet.specs.Tables.{placeOf, interfaceOf, routePlace, routeOf, interfacesOf, prohibitedOf, holderFrom, holderOf}
+use Rattle.sheet.specs.Inside.{routesBeside, Beside}
 use Rattle.sheet.specs.declared.layout.Layout.{Layout}
 use Rattle.sheet.specs.declared.tables.Holding.{Holding}
 use Rattle.sheet.specs.declared.tables.Holding.the-variants.{At, Nowhere}
 use Rattle.sheet.proofs.Valid.{valid}
-use Rattle.sheet.proofs.Places.{some-room, place-low, place-past, in-row}
-use Rattle.sheet.proofs.Entries.{layout-valid, valid-told, interface-few, interface-bytes, route-valid, route-bytes}
+use Rattle.sheet.proofs.Places.{some-room, place-low, in-row}
+use Rattle.sheet.proofs.Entries.{layout-valid, valid-told, interface-few, interface-bytes, route-valid, route-bytes, route-keeps}
 
 module _ {F : Format} (sound : Sound F) where
   -- an interface's place
@@ -53,7 +51,7 @@ module _ {F : Format} (sound : Sound F) where
   route-next k = mod-lt k route-each
 
   -- some stand side by side from it on
-  pub beside-some : (k routes : ℕ) → k < routes → 0 < min (routes - k) (entriesEach F.route - k % entriesEach F.route)
+  pub beside-some : (k routes : ℕ) → k < routes → 0 < routesBeside F routes k
   beside-some k routes h = omega (arith, route-next k)
 
   module _ (s : List ℕ) (l : Layout) (k : ℕ) (el : l ≡ layoutOf F s) (there : k < l .routes) where
@@ -75,33 +73,25 @@ module _ {F : Format} (sound : Sound F) where
     pub route-within : (at : ℕ) → at ≡ placeOf F.route (l .blocks) k → at + routeFields ≤ length s
     route-within at e = omega (arith, route-whole at e)
 
-    pub route-read : (at : ℕ) (r : Route) → at ≡ placeOf F.route (l .blocks) k → r ≡ routeAt s at → r ≡ routeOf F s k
-    unfolding routeOf
-    route-read at r e f = f ∙ rw (e, blocks-told)
+    its-place : (at : ℕ) → at ≡ placeOf F.route (l .blocks) k → at ≡ routePlace F s k
+    its-place at e = rw (e, blocks-told)
 
   -- the routes beside a route, up to the end of its block
   module _ (s : List ℕ) (l : Layout) (k : ℕ) (el : l ≡ layoutOf F s) (there : k < l .routes) (at count : ℕ)
-      (placed : at ≡ placeOf F.route (l .blocks) k)
-      (beside : count ≡ min (l .routes - k) (entriesEach F.route - k % entriesEach F.route)) where
-    some-beside : 0 < count
-    some-beside = rw beside (beside-some k (l .routes) there)
+      (placed : at ≡ placeOf F.route (l .blocks) k) (beside : count ≡ routesBeside F (l .routes) k) where
+    in-block : (j : ℕ) → j < count → at + F.route * j ≡ placeOf F.route (l .blocks) (k + j)
+    in-block j h = rw placed (in-row F.route k j (omega arith) (l .blocks))
 
-    beside-row : (j : ℕ) → j < count → at + F.route * j ≡ placeOf F.route (l .blocks) (k + j)
-    beside-row j h = rw placed (in-row F.route k j (omega arith) (l .blocks))
+    -- each has its place, as many routes on as it stands behind the first
+    pub beside-place : (j : ℕ) → j < count → at + F.route * j ≡ routePlace F s (k + j)
+    beside-place j h = its-place s l (k + j) el (omega arith) (at + F.route * j) (in-block j h)
 
-    last-low : k + (count - 1) < at + F.route * (count - 1)
-    last-low = rw (beside-row (count - 1) (omega (arith, some-beside))) (place-past F.route (l .blocks) (k + (count - 1)) (omega arith))
-
-    row-within : (j : ℕ) → j < count → at + F.route * j + F.route ≤ length s
-    row-within j h = route-whole s l (k + j) el (omega arith) (at + F.route * j) (beside-row j h)
-
-    pub routes-beside : Beside F s k at count
+    pub routes-beside : Beside F s at count
+    unfolding routeOf
     routes-beside =
         record {
-          there = rw (← el) (omega arith);
-          few = omega (arith, last-low, row-within (count - 1) (omega (arith, some-beside)));
-          bytes = row-within;
-          each = λ j h. sym (route-read s l (k + j) el (omega arith) (at + F.route * j) (routeAt s (at + F.route * j)) (beside-row j h) refl);
+          bytes = λ j h. route-whole s l (k + j) el (omega arith) (at + F.route * j) (in-block j h);
+          kept = λ j h. rw (beside-place j h) (route-keeps sound s (k + j) (rw (← el) (omega arith)));
         }
 
 -- the switches

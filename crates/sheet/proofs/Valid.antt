@@ -13,7 +13,7 @@ use Rattle.format.specs.declared.Format.{Format}
 use Rattle.interface.specs.Interface.{mostInterfaces}
 use Rattle.sheet.specs.Every.{every}
 use Rattle.sheet.specs.Rules.{interfaceKind, routeKind, switchesOk, interfaceRight, routeRight, entriesOk, blockOk}
-use Rattle.sheet.specs.Sheet.{mostBlocks, sheetSizeOk, blocks, sheetBlock, interfaceBlocksIn, interfaceBlocks, interfacesIn, blockOkAt, validSheet}
+use Rattle.sheet.specs.Sheet.{mostBlocks, sheetSizeOk, blocks, sheetBlock, interfaceBlocksIn, interfaceBlocks, interfacesIn, interfaceBlockOk, routeBlockOk, blockOkWith, blockOkAt, validSheet}
 use Rattle.sheet.proofs.Numbered.{every-one}
 use Rattle.wire.proofs.Laws.{Wholes, wholes}
 
@@ -76,14 +76,14 @@ run-of s kind size right first stop within kept =
 -- the interface blocks, and the route blocks, of a valid sheet
 module _ (F : Format) (s : List ℕ) (v : Valid F s) where
   pub interface-run : Run s interfaceKind F.interface (interfaceRight F) 0 (interfaceBlocks s)
-  unfolding blockOkAt
+  unfolding blockOkWith interfaceBlockOk
   interface-run =
       run-of s interfaceKind F.interface (interfaceRight F) 0 (interfaceBlocks s)
       (omega (arith, v .within, v .size .whole))
       (λ k l h. rw (lt-ltb k (interfaceBlocks s) h) at (v .each k (omega (arith, v .within))))
 
   pub route-run : Run s routeKind F.route (routeRight (interfacesIn F s)) (interfaceBlocks s) (blocks s)
-  unfolding blockOkAt
+  unfolding blockOkWith routeBlockOk
   route-run =
       run-of s routeKind F.route (routeRight (interfacesIn F s)) (interfaceBlocks s) (blocks s)
       (omega (arith, v .size .whole))

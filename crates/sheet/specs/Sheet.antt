@@ -50,12 +50,21 @@ interfacesIn F s = entriesIn s (entriesEach F.interface) 0 (interfaceBlocks s)
 unfoldable pub routesIn : Format → List ℕ → ℕ
 routesIn F s = entriesIn s (entriesEach F.route) (interfaceBlocks s) (blocks s - interfaceBlocks s)
 
--- block k keeps its rules: the interface blocks come first, and the last of a kind may be partly filled
-unfoldable pub blockOkAt : Format → List ℕ → ℕ → Bool
-blockOkAt F s k =
-    cond (ltb k (interfaceBlocks s))
-    (blockOk interfaceKind F.interface (interfaceRight F) k (eqb (k + 1) (interfaceBlocks s)) (sheetBlock s k))
-    (blockOk routeKind F.route (routeRight (interfacesIn F s)) k (eqb (k + 1) (blocks s)) (sheetBlock s k))
+-- block k keeps the rules of an interface block, where there are m of them: the last may be partly filled
+unfoldable pub interfaceBlockOk : Format → List ℕ → ℕ → ℕ → Bool
+interfaceBlockOk F s m k = blockOk interfaceKind F.interface (interfaceRight F) k (eqb (k + 1) m) (sheetBlock s k)
+
+-- block k keeps the rules of a route block, where there are so many interfaces: the last block may be partly filled
+unfoldable pub routeBlockOk : Format → List ℕ → ℕ → ℕ → Bool
+routeBlockOk F s interfaces k = blockOk routeKind F.route (routeRight interfaces) k (eqb (k + 1) (blocks s)) (sheetBlock s k)
+
+-- block k keeps its rules, where there are m interface blocks, which come first, and so many interfaces
+unfoldable pub blockOkWith : Format → List ℕ → ℕ → ℕ → ℕ → Bool
+blockOkWith F s m interfaces k = cond (ltb k m) (interfaceBlockOk F s m k) (routeBlockOk F s interfaces k)
+
+-- and where there are as many as the sheet has
+abbrev pub blockOkAt : Format → List ℕ → ℕ → Bool
+blockOkAt F s = blockOkWith F s (interfaceBlocks s) (interfacesIn F s)
 
 -- 1 to 16 blocks, at least one of them an interface block, at most 64 interfaces, and every block keeps its rules
 unfoldable pub validSheet : Format → List ℕ → Bool

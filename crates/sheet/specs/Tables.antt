@@ -23,9 +23,13 @@ placeOf size first i = blockSize * (first + i / entriesEach size) + placeInBlock
 unfoldable pub interfaceOf : Format → List ℕ → ℕ → Interface
 interfaceOf F s i = interfaceAt s (placeOf F.interface 0 i)
 
+-- where route k begins: routes stand behind the interface blocks
+abbrev pub routePlace : Format → List ℕ → ℕ → ℕ
+routePlace F s k = placeOf F.route (interfaceBlocks s) k
+
 -- route k
 unfoldable pub routeOf : Format → List ℕ → ℕ → Route
-routeOf F s k = routeAt s (placeOf F.route (interfaceBlocks s) k)
+routeOf F s k = routeAt s (routePlace F s k)
 
 -- all interfaces, in order
 unfoldable pub interfacesOf : Format → List ℕ → List Interface

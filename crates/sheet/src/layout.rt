@@ -5,6 +5,7 @@ use crate::rules::route_block_ok;
 use crate::rules::wide;
 use format::Format;
 ghost use mathlib.Core.Path.{_≡_};
+ghost use mathlib.Core.Bool.{true};
 ghost use Prim.Native.Nat.{_+_, _*_, _/_, _≤_, _<_};
 ghost use lib.ListN.{length};
 ghost use Rattle.wire.specs.Numbers.{byteAt};
@@ -12,8 +13,8 @@ ghost use Rattle.block.specs.Block.{blockSize, entriesRoom};
 ghost use Rattle.format.specs.Sizes.{Sound, ipv4};
 ghost use Rattle.interface.specs.Interface.{mostInterfaces};
 ghost use Rattle.sheet.specs.Every.{every};
-ghost use Rattle.sheet.specs.Sheet.{mostBlocks, sheetSizeOk, blocks, sheetBlock, entriesIn, noLayout, layoutOf};
-ghost use Rattle.sheet.specs.Inside.{Leading, blockOkWith};
+ghost use Rattle.sheet.specs.Sheet.{mostBlocks, sheetSizeOk, blocks, sheetBlock, entriesIn, interfaceBlockOk, routeBlockOk, blockOkWith, noLayout, layoutOf};
+ghost use Rattle.sheet.specs.Inside.{Leading};
 
 // The most blocks of a sheet.
 const MOST_BLOCKS: usize = 16;
@@ -70,42 +71,79 @@ fn entries(s: &[u8], each: usize, first: usize, count: usize) -> usize
     each * (count - 1) + byte_of(s, first + (count - 1), 1)
 }
 
-// Whether block `k` keeps its rules, where there are `m` interface blocks and so many interfaces.
-fn block_ok(f: Format, s: &[u8], k: usize, m: usize, interfaces: u16) -> bool
+// Whether block `k` is an interface block that keeps its rules, where there are `m` of them.
+fn interface_block_at(f: Format, s: &[u8], k: usize, m: usize) -> bool
     requires { ⌜ Sound f ⌝ }
-    requires { ⌜ (blockSize * k + blockSize ≤ length (now s)) × (k < mostBlocks) × (interfaces ≤ mostInterfaces) ⌝ }
-    ensures { λ r. ⌜ r ≡ blockOkWith f (now (s .entry)) m interfaces k ⌝ }
+    requires { ⌜ (blockSize * k + blockSize ≤ length (now s)) × (k < mostBlocks) ⌝ }
+    ensures { λ r. ⌜ r ≡ interfaceBlockOk f (now (s .entry)) m k ⌝ }
 {
     let a = block::BLOCK_SIZE * k;
     let e = a + block::BLOCK_SIZE;
-    let number = k as u16;
-    if k < m {
-        return interface_block_ok(f, &s[a..e], number, k + 1 == m);
-    }
+    interface_block_ok(f, &s[a..e], k as u16, k + 1 == m)
+}
+
+// Whether block `k` is a route block that keeps its rules, where there are so many interfaces.
+fn route_block_at(f: Format, s: &[u8], k: usize, interfaces: u16) -> bool
+    requires { ⌜ Sound f ⌝ }
+    requires { ⌜ (blockSize * k + blockSize ≤ length (now s)) × (k < mostBlocks) × (interfaces ≤ mostInterfaces) ⌝ }
+    ensures { λ r. ⌜ r ≡ routeBlockOk f (now (s .entry)) interfaces k ⌝ }
+{
+    let a = block::BLOCK_SIZE * k;
+    let e = a + block::BLOCK_SIZE;
     route_block_ok(
         f,
         &s[a..e],
-        number,
+        k as u16,
         k + 1 == s.len() / block::BLOCK_SIZE,
         interfaces,
     )
 }
 
-// Whether every block keeps its rules. The first that does not settles it.
-fn blocks_ok(f: Format, s: &[u8], m: usize, interfaces: u16) -> bool
+// Whether the first `m` blocks are interface blocks that keep their rules. The first that does not settles it.
+fn interface_blocks_ok(f: Format, s: &[u8], m: usize) -> bool
     requires { ⌜ Sound f ⌝ }
-    requires { ⌜ (blocks (now s) ≤ mostBlocks) × (interfaces ≤ mostInterfaces) ⌝ }
-    ensures { λ r. ⌜ r ≡ every (blockOkWith f (now (s .entry)) m interfaces) (blocks (now (s .entry))) ⌝ }
+    requires { ⌜ (m ≤ blocks (now s)) × (blocks (now s) ≤ mostBlocks) ⌝ }
+    ensures { λ r. ⌜ r ≡ every (interfaceBlockOk f (now (s .entry)) m) m ⌝ }
 {
-    let n = s.len() / block::BLOCK_SIZE;
     let mut k: usize = 0;
-    while k < n {
-        if !block_ok(f, s, k, m, interfaces) {
+    while k < m {
+        if !interface_block_at(f, s, k, m) {
             return false;
         }
         k += 1;
     }
     true
+}
+
+// Whether every block keeps its rules, where the first `m` do: those behind are route blocks. They have a loop of their own, which
+// carries nothing along for interface blocks.
+fn route_blocks_ok(f: Format, s: &[u8], m: usize, interfaces: u16) -> bool
+    requires { ⌜ Sound f ⌝ }
+    requires { ⌜ (m ≤ blocks (now s)) × (blocks (now s) ≤ mostBlocks) × (interfaces ≤ mostInterfaces) ⌝ }
+    requires { ⌜ true ≡ every (blockOkWith f (now s) m interfaces) m ⌝ }
+    ensures { λ r. ⌜ r ≡ every (blockOkWith f (now (s .entry)) m interfaces) (blocks (now (s .entry))) ⌝ }
+{
+    let n = s.len() / block::BLOCK_SIZE;
+    let mut k = m;
+    while k < n {
+        if !route_block_at(f, s, k, interfaces) {
+            return false;
+        }
+        k += 1;
+    }
+    true
+}
+
+// Whether every block keeps its rules, where there are `m` interface blocks and so many interfaces.
+fn blocks_ok(f: Format, s: &[u8], m: usize, interfaces: u16) -> bool
+    requires { ⌜ Sound f ⌝ }
+    requires { ⌜ (m ≤ blocks (now s)) × (blocks (now s) ≤ mostBlocks) × (interfaces ≤ mostInterfaces) ⌝ }
+    ensures { λ r. ⌜ r ≡ every (blockOkWith f (now (s .entry)) m interfaces) (blocks (now (s .entry))) ⌝ }
+{
+    if !interface_blocks_ok(f, s, m) {
+        return false;
+    }
+    route_blocks_ok(f, s, m, interfaces)
 }
 
 // What is told of a sheet that breaks a rule.

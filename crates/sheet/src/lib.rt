@@ -9,6 +9,5 @@ pub use tables::Holding;
 pub use tables::holder;
 pub use tables::interface_place;
 pub use tables::prohibited;
-pub use tables::route;
 pub use tables::route_place;
 pub use tables::routes_beside;

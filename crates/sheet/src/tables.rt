@@ -3,13 +3,14 @@ use crate::layout::Layout;
 use crate::rules::PROHIBITS;
 use format::Format;
 ghost use mathlib.Core.Path.{_≡_};
-ghost use Prim.Native.Nat.{_+_, _*_, _-_, _%_, _≤_, _<_, min};
+ghost use Prim.Native.Nat.{_+_, _*_, _≤_, _<_};
 ghost use lib.ListN.{length};
-ghost use Rattle.block.specs.Block.{blockSize, entriesEach};
+ghost use Rattle.block.specs.Block.{blockSize};
 ghost use Rattle.format.specs.Sizes.{Sound};
 ghost use Rattle.interface.specs.Interface.{mostInterfaces};
 ghost use Rattle.sheet.specs.Sheet.{mostBlocks, layoutOf};
-ghost use Rattle.sheet.specs.Tables.{placeOf, interfaceOf, routeOf, prohibitedOf, holderOf};
+ghost use Rattle.sheet.specs.Tables.{placeOf, prohibitedOf, holderOf};
+ghost use Rattle.sheet.specs.Inside.{routesBeside};
 
 // The number of the interface that holds an address, or none.
 pub enum Holding {
@@ -27,7 +28,7 @@ pub fn interface_place(f: Format, i: usize) -> usize
     block::BLOCK_SIZE * (i / each) + (block::ENTRIES_AT + f.interface * (i % each))
 }
 
-// Where route `k` begins.
+// Where route `k` begins. It is read there (crate `route_entry`).
 pub fn route_place(f: Format, l: Layout, k: usize) -> usize
     requires { ⌜ Sound f ⌝ }
     requires { ⌜ placeOf (f .route) (l .blocks) k + f .route ≤ blockSize * mostBlocks ⌝ }
@@ -42,7 +43,7 @@ pub fn route_place(f: Format, l: Layout, k: usize) -> usize
 pub fn routes_beside(f: Format, l: Layout, k: usize) -> usize
     requires { ⌜ Sound f ⌝ }
     requires { ⌜ k < l .routes ⌝ }
-    ensures { λ r. ⌜ r ≡ min (l .routes - k) (entriesEach (f .route) - k % entriesEach (f .route)) ⌝ }
+    ensures { λ r. ⌜ r ≡ routesBeside f (l .routes) k ⌝ }
 {
     let full = block::ENTRIES_ROOM / f.route;
     let left = l.routes - k;
@@ -51,15 +52,6 @@ pub fn routes_beside(f: Format, l: Layout, k: usize) -> usize
         return left;
     }
     room
-}
-
-// Route `k`.
-pub fn route(f: Format, s: &[u8], l: Layout, k: usize) -> route_entry::Route
-    requires { ⌜ Sound f ⌝ }
-    requires { ⌜ (l ≡ layoutOf f (now s)) × (k < l .routes) ⌝ }
-    ensures { λ r. ⌜ r ≡ routeOf f (now (s .entry)) k ⌝ }
-{
-    route_entry::route_at(s, route_place(f, l, k))
 }
 
 // Whether tracing is prohibited.

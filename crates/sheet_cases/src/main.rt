@@ -70,7 +70,7 @@ fn print_counts(e: route_entry::Route) {
 fn route(s: &[u8], k: usize) {
     let l = sheet::check(s);
     if k < l.routes {
-        let e = sheet::route(format::IPV4, s, l, k);
+        let e = route_entry::route_at(s, sheet::route_place(format::IPV4, l, k));
         print_addresses(e);
         print_counts(e);
     }

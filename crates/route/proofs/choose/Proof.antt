@@ -7,11 +7,11 @@ use Rattle.route.proofs.choose.Tie as tie
 returns : tie.Need-returns
 returns c = search chosen-none
 
-route-requires : tie.Need-route-requires
-route-requires c κs = (search, search chosen-there)
+route-at-requires : tie.Need-route-at-requires
+route-at-requires c κs = search chosen-there
 
 returns-2 : tie.Need-returns-2
 returns-2 c = search chosen-some
 
 pub choose-spec : {M : Type 1} → statement M
-choose-spec = tie.close (tie.spec (λ c κs. search needs) returns route-requires returns-2)
+choose-spec = tie.close (tie.spec (λ c κs. search needs) returns route-at-requires returns-2)

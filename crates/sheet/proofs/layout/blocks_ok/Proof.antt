@@ -1,35 +1,14 @@
--- `blocks_ok`: the k blocks that were passed keep their rules.
-use Prim.Native.Nat.{_-_, _≤_}
-use mathlib.Core.Bool.{true}
-use mathlib.Core.Path.{_≡_, refl}
-use native.Mathlib.Omega.{arith}
+-- `blocks_ok`: the interface blocks first, then the others.
+use Rattle.sheet.proofs.Leading.{first-kept, first-broken}
 use borrow.Author.Needs.{needs}
-use Rattle.sheet.specs.Every.{every}
-use Rattle.sheet.specs.Inside.{blockOkWith}
-use Rattle.sheet.proofs.Numbered.{every-next, every-stops, every-all}
 use Rattle.sheet.proofs.layout.blocks_ok.Statement.{statement}
 use Rattle.sheet.proofs.layout.blocks_ok.Tie as tie
 
-abbrev Inv-loop : tie.InvT-loop
-Inv-loop f s m interfaces n k₀ k = (k ≤ n) × (true ≡ every (blockOkWith f s m interfaces) k)
+returns : tie.Need-returns
+returns c = search first-broken
 
-abbrev μ-loop : tie.MeasureT-loop
-μ-loop f s m interfaces n k₀ k = n - k
-
-loop-holds : tie.Need-loop-holds Inv-loop μ-loop
-unfolding every
-loop-holds c = (omega arith, refl)
-
-returns : tie.Need-returns Inv-loop μ-loop
-returns c = search every-stops
-
-loop-again : tie.Need-loop-again Inv-loop μ-loop
-loop-again c = (omega arith, search every-next)
-
-returns-2 : tie.Need-returns-2 Inv-loop μ-loop
-returns-2 c = search every-all
+route-blocks-ok-requires : tie.Need-route-blocks-ok-requires
+route-blocks-ok-requires c κs = search (first-kept, needs)
 
 pub blocks-ok-spec : {M : Type 1} → statement M
-blocks-ok-spec =
-    tie.close
-    (tie.spec Inv-loop μ-loop loop-holds (λ c κs. search needs) returns (λ c. omega arith) (λ c. omega arith) loop-again returns-2)
+blocks-ok-spec = tie.close (tie.spec (λ c κs. search needs) returns route-blocks-ok-requires (λ c. search needs))
