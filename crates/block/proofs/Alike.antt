@@ -9,7 +9,7 @@ use lib.Dec.{ltb, eqb}
 use borrow.Author.Tests.{eqb-true, eq-eqb, ltb-true, ltb-false, lt-ltb}
 use Rattle.rows.proofs.Laws.{same-flag, both-true, both-of}
 use Rattle.block.specs.Sum.{rightSum}
-use Rattle.wire.specs.Inside.{le32}
+use Rattle.memory.specs.Inside.{le32}
 use Rattle.block.specs.Inside.{wordSize, pastWord, pastLong, words, Alike, SumsTo}
 use Rattle.block.specs.declared.LongSum.{LongSum}
 

@@ -12,8 +12,8 @@ use lib.ListN.{length, drop, drop-of-length-le}
 use lib.Seq.{drop-cons}
 use borrow.Author.Tests.{eqb-true, eq-eqb, ltb-true, lt-ltb}
 use Rattle.wire.specs.Numbers.{byteAt}
-use Rattle.wire.specs.Inside.{le32}
-use Rattle.wire.proofs.Laws.{le32-is}
+use Rattle.memory.specs.Inside.{le32}
+use Rattle.memory.proofs.Laws.{le32-is}
 use Rattle.block.specs.Sum.{rightSum, carried, sumFrom, sumOk}
 use Rattle.block.specs.Block.{blockSize}
 use Rattle.block.specs.Inside.{wordSize, blockWords, words, Alike}

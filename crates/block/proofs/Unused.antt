@@ -9,8 +9,9 @@ use lib.Dec.{eqb}
 use lib.ListN.{length}
 use borrow.Author.Tests.{ne-eqb}
 use Rattle.wire.specs.Numbers.{byteAt}
-use Rattle.wire.specs.Inside.{le32}
-use Rattle.wire.proofs.Laws.{or-none, le32-is}
+use Rattle.memory.specs.Inside.{le32}
+use Rattle.wire.proofs.Laws.{or-none}
+use Rattle.memory.proofs.Laws.{le32-is}
 use Rattle.wire.specs.Parts.{allZero}
 use Rattle.block.specs.Block.{blockSize, switchesAt}
 use Rattle.block.specs.Inside.{wordSize, switchesWord, zeroFrom}

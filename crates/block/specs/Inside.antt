@@ -4,7 +4,7 @@ use Prim.Native.Nat.{ℕ, zero, suc, _+_, _*_, _-_, _/_, _≤_, _<_}
 use mathlib.Core.Bool.{Bool}
 use mathlib.Core.Path.{_≡_}
 use mathlib.Core.List.{List}
-use Rattle.wire.specs.Inside.{le32}
+use Rattle.memory.specs.Inside.{le32}
 use Rattle.wire.specs.Parts.{part, allZero}
 use Rattle.block.specs.Sum.{rightSum}
 use Rattle.block.specs.Block.{blockSize, switchesAt}

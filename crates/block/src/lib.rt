@@ -74,8 +74,8 @@ fn add_two(s: LongSum, b: &[u8], i: usize) -> LongSum
     requires { ⌜ SumsTo (now b) i s ⌝ }
     ensures { λ r. ⌜ SumsTo (now (b .entry)) (i + 2) r ⌝ }
 {
-    let low = wire::le32(b, WORD_SIZE * i) as u64;
-    let high = wire::le32(b, WORD_SIZE * (i + 1)) as u64;
+    let low = memory::le32(b, WORD_SIZE * i) as u64;
+    let high = memory::le32(b, WORD_SIZE * (i + 1)) as u64;
     add(s, low + high * PAST_WORD)
 }
 
@@ -126,7 +126,7 @@ fn zero_from(b: &[u8], from: usize) -> bool
     let mut some: u32 = 0;
     let mut i = from;
     while i < SWITCHES_WORD {
-        some = some | wire::le32(b, WORD_SIZE * i);
+        some = some | memory::le32(b, WORD_SIZE * i);
         i += 1;
     }
     some == 0

@@ -11,7 +11,6 @@ use Rattle.clock.specs.declared.Clock.{Clock}
 use Rattle.clock.specs.declared.Units.{Units}
 use Rattle.clock.specs.Clock.{startOf, advanceOf, arrivalOf}
 use Rattle.clock.specs.Unix.{unixOf}
-use Rattle.message.specs.Format.{most}
 use Rattle.response.specs.declared.Block.{Block}
 use Rattle.response.specs.Bytes.{blockBytes}
 use Rattle.sheet.specs.Tables.{interfaceOf}

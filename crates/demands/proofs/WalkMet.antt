@@ -13,7 +13,7 @@ use lib.Seq.{take-append-seam, getD-take, length-take-le}
 use Rattle.rows.specs.Rows.{Row, firstOf, NoneApplies, IsFirst}
 use Rattle.rows.proofs.Laws.{decided, first-or-none, first-is, noted-is}
 use Rattle.wire.specs.Numbers.{be, be16, be32}
-use Rattle.wire.specs.Addresses.{multicast}
+use Rattle.address.specs.Addresses.{multicast}
 use Rattle.wire.proofs.Laws.{splice-front}
 use Rattle.response.specs.declared.Block.{Block}
 use Rattle.response.specs.Code.{codeNoSpace}

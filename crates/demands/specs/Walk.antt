@@ -9,7 +9,7 @@ use lib.ListN.{length, take, getD, set, replicate}
 use Rattle.rows.specs.Rows.{NoneApplies, IsFirst}
 use Rattle.wire.specs.Numbers.{be16, be32}
 use Rattle.wire.specs.Parts.{splice}
-use Rattle.wire.specs.Addresses.{multicast}
+use Rattle.address.specs.Addresses.{multicast}
 use Rattle.recent.specs.Entries.{empty}
 use Rattle.response.specs.declared.Block.{Block}
 use Rattle.response.specs.Code.{codeNoSpace}

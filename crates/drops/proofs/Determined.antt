@@ -1,6 +1,6 @@
 -- Two answers that meet what a function ensures are equal.
 use mathlib.Core.Path.{_≡_}
-use Rattle.wire.proofs.Laws.{both-are}
+use Rattle.rows.proofs.Laws.{both-are}
 use Rattle.drops.proofs.lent_row.Reads as lent-row
 use Rattle.drops.proofs.judge.Reads as judge
 

@@ -6,11 +6,11 @@ use mathlib.Core.Logic.{⊎-elim}
 use mathlib.Core.Path.{_≡_, refl, sym, ap, _∙_}
 use native.Mathlib.Omega.{arith}
 use lib.Dec.{leb, ltb, eqb}
-use lib.ListN.{length, drop}
+use lib.ListN.{drop}
 use borrow.Author.Tests.{le-ltb, lt-leb, ne-eqb, ltb-true, ltb-false, leb-false, not-false}
 use Rattle.rows.specs.Rows.{Row, row, firstOf, NoneApplies, IsFirst}
 use Rattle.rows.proofs.Laws.{decided, neither-of, none-is, number-kept, given-by, none-by, some-first, zero-none, first-at-most, never-reached, appliesAt, none-at, none-joined, none-split}
-use Rattle.wire.specs.Addresses.{linkScoped}
+use Rattle.address.specs.Addresses.{linkScoped}
 use Rattle.recent.specs.Layout.{wellFormed}
 use Rattle.recent.specs.Entries.{seenIn}
 use Rattle.sheet.specs.Sheet.{layoutOf}

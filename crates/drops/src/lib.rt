@@ -6,7 +6,7 @@ use route::Chosen;
 use sheet::Layout;
 ghost use mathlib.Core.Path.{_≡_};
 ghost use mathlib.Core.Bool.{true, _&&_, _||_};
-ghost use Rattle.wire.specs.Addresses.{linkScoped};
+ghost use Rattle.address.specs.Addresses.{linkScoped};
 ghost use Rattle.format.specs.Sizes.{Sound};
 ghost use Rattle.recent.specs.Inside.{Formed};
 ghost use Rattle.recent.specs.Entries.{seenIn};
@@ -94,7 +94,7 @@ fn is_delivered(f: Format, sheet: &[u8], interfaces: usize, destination: u32) ->
     requires { ⌜ interfaces ≡ layoutOf f (now sheet) .interfaces ⌝ }
     ensures { λ r. ⌜ r ≡ (isHeld (holderOf f (now (sheet .entry)) destination) || linkScoped destination) ⌝ }
 {
-    is_held(f, sheet, interfaces, destination) | wire::link_scoped(destination)
+    is_held(f, sheet, interfaces, destination) | address::link_scoped(destination)
 }
 
 // A Query whose client and id are in a well-formed recent list.
@@ -155,7 +155,7 @@ fn delivery_row(
 fn route_row(proper: bool, h: Header, destination: u32) -> u32
     ensures { λ r. ⌜ r ≡ firstOf (routeRows proper h destination) ⌝ }
 {
-    if (h.kind == message::QUERY) & wire::link_scoped(destination) & !proper {
+    if (h.kind == message::QUERY) & address::link_scoped(destination) & !proper {
         return DROP_LASTHOP;
     }
     0

@@ -1,7 +1,7 @@
 -- Two outcomes that meet what a step ensures are equal: the answer and every lent byte.
 use mathlib.Core.Path.{_≡_}
 use denote.Ref.{now}
-use Rattle.wire.proofs.Laws.{both-are}
+use Rattle.rows.proofs.Laws.{both-are}
 use Rattle.engine.specs.Step.{outcome}
 use Rattle.engine.proofs.step_lent.Reads as step-lent
 use Rattle.engine.proofs.step.Reads as step

@@ -10,7 +10,7 @@ use native.Mathlib.Nat.{eq-or-lt-of-le}
 use borrow.Author.Tests.{lt-leb, leb-false, ne-eqb, eq-eqb, eqb-false}
 use lib.Dec.{leb, eqb, lit≤}
 use lib.ListN.{length}
-use Rattle.wire.specs.Addresses.{unicast, allOnes}
+use Rattle.address.specs.Addresses.{unicast, allOnes}
 use Rattle.rows.proofs.Laws.{decided, neither-of}
 use Rattle.recent.specs.Entries.{empty}
 use Rattle.recent.proofs.Laws.{empty-well-formed}

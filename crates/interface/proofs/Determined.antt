@@ -1,6 +1,6 @@
 -- Two answers that meet a function's promise are equal: what each ensures is an equation.
 use mathlib.Core.Path.{_≡_}
-use Rattle.wire.proofs.Laws.{both-are}
+use Rattle.rows.proofs.Laws.{both-are}
 use Rattle.interface.proofs.interface_at.Reads as interface-at
 use Rattle.interface.proofs.is_multicast.Reads as is-multicast
 use Rattle.interface.proofs.is_boundary.Reads as is-boundary

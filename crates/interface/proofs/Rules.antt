@@ -4,7 +4,7 @@ use mathlib.Core.Bool.{Bool, true, false, not, _&&_}
 use mathlib.Core.Path.{_≡_}
 use lib.Dec.{leb, eqb}
 use borrow.Author.Tests.{not-true, not-false}
-use Rattle.wire.specs.Addresses.{unicast}
+use Rattle.address.specs.Addresses.{unicast}
 use Rattle.format.specs.declared.Format.{Format}
 use Rattle.interface.specs.declared.Interface.{Interface}
 use Rattle.interface.specs.Interface.{interfaceOk}

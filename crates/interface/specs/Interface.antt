@@ -4,7 +4,7 @@ use mathlib.Core.Bool.{Bool, _&&_}
 use mathlib.Core.List.{List}
 use lib.Dec.{leb, eqb}
 use Rattle.wire.specs.Numbers.{byteAt, be16, be32, be64}
-use Rattle.wire.specs.Addresses.{unicast}
+use Rattle.address.specs.Addresses.{unicast}
 use Rattle.format.specs.declared.Format.{Format}
 use Rattle.prefix.specs.Prefix.{addressBits}
 use Rattle.interface.specs.declared.Interface.{Interface}

@@ -59,7 +59,7 @@ pub fn interface_ok(f: Format, s: &[u8], at: usize) -> bool
     requires { ⌜ at + interfaceFields ≤ length (now s) ⌝ }
     ensures { λ r. ⌜ r ≡ interfaceOk f (interfaceAt (now (s .entry)) at) ⌝ }
 {
-    if !wire::unicast(wire::be32(s, at)) {
+    if !address::unicast(wire::be32(s, at)) {
         return false;
     }
     (1 <= s[at + 4])

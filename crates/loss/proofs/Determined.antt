@@ -1,7 +1,7 @@
 -- Two answers that meet a function's promise are equal: what each ensures is an equation.
 use denote.Ref.{now}
 use mathlib.Core.Path.{_≡_}
-use Rattle.wire.proofs.Laws.{both-are}
+use Rattle.rows.proofs.Laws.{both-are}
 use Rattle.loss.specs.Loss.{written}
 use Rattle.loss.proofs.count_of.Reads as count-of
 use Rattle.loss.proofs.link_of.Reads as link-of

@@ -1,6 +1,6 @@
 -- Laws of accepted messages, those to which no row of 5 to 13 applies: what is known of one, what the check answers for it,
 -- and that a Query has room and a Request a type 4 block.
-use Prim.Native.Nat.{ℕ, zero, suc, _+_, _≤_, _<_}
+use Prim.Native.Nat.{ℕ, zero, suc, _≤_, _<_}
 use mathlib.Core.Path.{_≡_, refl, sym, ap, _∙_}
 use mathlib.Core.Bool.{true, false}
 use mathlib.Core.List.{List, [], _∷_}
@@ -9,7 +9,7 @@ use native.Mathlib.Omega.{arith}
 use borrow.Author.Tests.{le-ltb, eq-eqb, ne-eqb, ltb-false, eqb-true, eqb-false, not-true, not-false}
 use lib.Dec.{ltb, eqb}
 use lib.ListN.{length}
-use Rattle.wire.specs.Addresses.{unicast}
+use Rattle.address.specs.Addresses.{unicast}
 use Rattle.rows.proofs.Laws.{neither-of, both-of, one-of, none-is, number-kept, zero-none, appliesAt, none-at}
 use Rattle.message.specs.declared.Header.{Header}
 use Rattle.message.specs.declared.Checked.{Checked}

@@ -1,6 +1,6 @@
 -- Two answers that meet what a function ensures are equal.
 use mathlib.Core.Path.{_≡_}
-use Rattle.wire.proofs.Laws.{both-are}
+use Rattle.rows.proofs.Laws.{both-are}
 use Rattle.message.proofs.header_of.Reads as header-of
 use Rattle.message.proofs.block_at.Reads as block-at
 use Rattle.message.proofs.blocks_of.Reads as blocks-of

@@ -4,7 +4,7 @@ use mathlib.Core.Bool.{Bool, not, _&&_, _||_}
 use mathlib.Core.List.{List}
 use lib.Dec.{eqb}
 use Rattle.wire.specs.Numbers.{byteAt, be16, be32}
-use Rattle.wire.specs.Addresses.{unicast, multicast, allOnes}
+use Rattle.address.specs.Addresses.{unicast, multicast, allOnes}
 use Rattle.message.specs.declared.Header.{Header}
 use Rattle.message.specs.Format.{query, request}
 use Rattle.format.specs.declared.Format.{Format}

@@ -120,12 +120,20 @@ fn header_number(f: Format, h: Header) -> u32
     requires { ⌜ Sound f ⌝ }
     ensures { λ r. ⌜ r ≡ firstOf (headerRows f h) ⌝ }
 {
-    let no_group = wire::all_ones(h.group);
-    let no_source = wire::all_ones(h.source);
-    let client = row(!(wire::unicast(h.client) & (h.port != 0)), DROP_CLIENT, 0);
+    let no_group = address::all_ones(h.group);
+    let no_source = address::all_ones(h.source);
+    let client = row(
+        !(address::unicast(h.client) & (h.port != 0)),
+        DROP_CLIENT,
+        0,
+    );
     let pair = row(no_group & no_source, DROP_PAIR, client);
-    let source = row(!(wire::unicast(h.source) | no_source), DROP_SOURCE, pair);
-    let group = row(!(wire::multicast(h.group) | no_group), DROP_GROUP, source);
+    let source = row(!(address::unicast(h.source) | no_source), DROP_SOURCE, pair);
+    let group = row(
+        !(address::multicast(h.group) | no_group),
+        DROP_GROUP,
+        source,
+    );
     let hops = row(h.hops == 0, DROP_HOPS, group);
     let size = row(h.length != f.header as u16, DROP_HEADER, hops);
     row(!((h.kind == QUERY) | (h.kind == REQUEST)), DROP_TYPE, size)

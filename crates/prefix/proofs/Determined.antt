@@ -1,6 +1,6 @@
 -- Two answers that meet a function's promise are equal: what each ensures is an equation.
 use mathlib.Core.Path.{_≡_}
-use Rattle.wire.proofs.Laws.{both-are}
+use Rattle.rows.proofs.Laws.{both-are}
 use Rattle.prefix.proofs.same_prefix.Reads as same-prefix
 use Rattle.prefix.proofs.zero_past.Reads as zero-past
 

@@ -1,7 +1,7 @@
 -- Two answers that meet a function's promise are equal: what each ensures is an equation.
 use denote.Ref.{now}
 use mathlib.Core.Path.{_≡_}
-use Rattle.wire.proofs.Laws.{both-are}
+use Rattle.rows.proofs.Laws.{both-are}
 use Rattle.recent.proofs.check.Reads as check
 use Rattle.recent.proofs.seen.Reads as seen
 use Rattle.recent.proofs.enter.Reads as enter

@@ -3,7 +3,7 @@ use denote.Ref.{RefT, now}
 use mathlib.Core.List.{List}
 use mathlib.Core.Path.{_≡_, ap, _∙_}
 use Prim.Native.Nat.{ℕ}
-use Rattle.wire.proofs.Laws.{both-are}
+use Rattle.rows.proofs.Laws.{both-are}
 use Rattle.reply.specs.declared.Handed.{Handed}
 use Rattle.reply.specs.declared.Reader.{Reader}
 use Rattle.reply.specs.Reader.{Opens, Hands}

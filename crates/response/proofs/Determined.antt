@@ -1,6 +1,6 @@
 -- Two answers that meet what a function ensures are equal.
 use mathlib.Core.Path.{_≡_}
-use Rattle.wire.proofs.Laws.{both-are}
+use Rattle.rows.proofs.Laws.{both-are}
 use Rattle.response.proofs.address_of.Reads as address-of
 use Rattle.response.proofs.upstream.Reads as upstream
 use Rattle.response.proofs.block_of.Reads as block-of

@@ -4,7 +4,7 @@ use mathlib.Core.Bool.{Bool, true, false, not, _&&_, _||_}
 use mathlib.Core.List.{List, [], _∷_}
 use lib.Dec.{eqb}
 use Rattle.rows.specs.Rows.{Row, row, byFirst}
-use Rattle.wire.specs.Addresses.{firstOctet}
+use Rattle.address.specs.Addresses.{firstOctet}
 use Rattle.route_entry.specs.declared.Route.{Route}
 use Rattle.interface.specs.Interface.{isMulticast, isBoundary}
 use Rattle.route_entry.specs.Route.{isRp, pruneSent, inMap}

@@ -2,7 +2,7 @@
 use Prim.Native.Nat.{ℕ, _+_}
 use mathlib.Core.Bool.{Bool, true, _&&_, _||_, cond}
 use lib.Dec.{ltb, eqb}
-use Rattle.wire.specs.Addresses.{allOnes}
+use Rattle.address.specs.Addresses.{allOnes}
 use Rattle.prefix.specs.Prefix.{addressBits}
 use Rattle.route_entry.specs.Route.{sourceAndGroup, groupOnly, sourceOnly, isRp}
 use Rattle.route_entry.specs.declared.Route.{Route}

@@ -119,7 +119,7 @@ fn in_scope(v: View) -> bool
     ensures { λ r. ⌜ r ≡ scoped v ⌝ }
 {
     let incoming = v.incoming;
-    (v.group / wire::FIRST_OCTET == SCOPED_OCTET)
+    (v.group / address::FIRST_OCTET == SCOPED_OCTET)
         & (interface::is_boundary(v.here) | boundary_on(incoming))
 }
 
@@ -212,7 +212,7 @@ fn input_of(i: Incoming) -> u64
 pub fn upstream(r: Route) -> u32
     ensures { λ a. ⌜ a ≡ upstreamOf r ⌝ }
 {
-    if wire::all_ones(r.upstream) {
+    if address::all_ones(r.upstream) {
         return ALL_ROUTERS;
     }
     r.upstream

@@ -9,7 +9,7 @@ use native.Mathlib.Nat.{eq-or-lt-of-le}
 use lib.Dec.{eqb, leb}
 use borrow.Author.Tests.{eqb-true, leb-true, ne-eqb, not-true, not-false}
 use Rattle.rows.proofs.Laws.{both-of}
-use Rattle.wire.specs.Addresses.{firstOctet, multicast, allOnes}
+use Rattle.address.specs.Addresses.{firstOctet, multicast, allOnes}
 use Rattle.prefix.specs.Prefix.{samePrefix}
 use Rattle.route_entry.specs.Route.{sourceAndGroup, groupOnly, sourceOnly, routeAt, routeOk}
 use Rattle.route_entry.specs.declared.Route.{Route}

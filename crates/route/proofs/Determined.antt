@@ -1,6 +1,6 @@
 -- Two answers that meet a function's promise are equal: what each ensures is an equation.
 use mathlib.Core.Path.{_≡_}
-use Rattle.wire.proofs.Laws.{both-are}
+use Rattle.rows.proofs.Laws.{both-are}
 use Rattle.route.proofs.choose.Reads as choose
 use Rattle.route.proofs.last_hop.Reads as last-hop
 

@@ -8,7 +8,7 @@ use native.Mathlib.Omega.{arith}
 use lib.Dec.{ltb, eqb}
 use borrow.Author.Tests.{lt-ltb, le-ltb, eq-eqb, ne-eqb, ltb-true, ltb-false}
 use Rattle.rows.proofs.Laws.{cond-cases}
-use Rattle.wire.specs.Addresses.{allOnes}
+use Rattle.address.specs.Addresses.{allOnes}
 use Rattle.prefix.specs.Prefix.{addressBits}
 use Rattle.route_entry.specs.declared.Route.{Route}
 use Rattle.route.specs.declared.Best.{Best}

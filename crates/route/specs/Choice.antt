@@ -3,7 +3,7 @@ use Prim.Native.Nat.{ℕ}
 use mathlib.Core.Bool.{Bool, true, _&&_, cond}
 use mathlib.Core.List.{List, [], _∷_}
 use lib.Dec.{ltb, eqb}
-use Rattle.wire.specs.Addresses.{allOnes}
+use Rattle.address.specs.Addresses.{allOnes}
 use Rattle.prefix.specs.Prefix.{samePrefix}
 use Rattle.route_entry.specs.Route.{sourceAndGroup, groupOnly, sourceOnly}
 use Rattle.route_entry.specs.declared.Route.{Route}

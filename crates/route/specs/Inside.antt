@@ -5,7 +5,7 @@ use Prim.Native.Nat.{ℕ, zero, suc, _+_, _%_}
 use mathlib.Core.Bool.{Bool, true, false, not, _&&_, _||_, cond}
 use mathlib.Core.List.{List}
 use lib.Dec.{ltb, eqb}
-use Rattle.wire.specs.Addresses.{allOnes}
+use Rattle.address.specs.Addresses.{allOnes}
 use Rattle.format.specs.declared.Format.{Format}
 use Rattle.prefix.specs.Prefix.{addressBits, samePrefix}
 use Rattle.interface.specs.Interface.{isMulticast}

@@ -43,7 +43,7 @@ fn of_source(s: &[u8], at: usize, source: u32) -> bool
     requires { ⌜ (at + routeFields ≤ length (now s)) × (routeAt (now s) at .length ≤ addressBits) ⌝ }
     ensures { λ b. ⌜ b ≡ ofSource source (routeAt (now (s .entry)) at) ⌝ }
 {
-    !wire::all_ones(source)
+    !address::all_ones(source)
         & prefix::same_prefix(
             route_entry::length_at(s, at),
             route_entry::source_at(s, at),

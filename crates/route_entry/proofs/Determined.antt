@@ -1,6 +1,6 @@
 -- Two answers that meet a function's promise are equal: what each ensures is an equation.
 use mathlib.Core.Path.{_≡_}
-use Rattle.wire.proofs.Laws.{both-are}
+use Rattle.rows.proofs.Laws.{both-are}
 use Rattle.route_entry.proofs.route_at.Reads as route-at
 use Rattle.route_entry.proofs.kind_at.Reads as kind-at
 use Rattle.route_entry.proofs.length_at.Reads as length-at

@@ -5,7 +5,7 @@ use mathlib.Core.Logic.{_⊎_, inl, inr, ⊎-elim}
 use mathlib.Core.Path.{_≡_}
 use lib.Dec.{ltb, eqb}
 use borrow.Author.Tests.{leb-true, ltb-true, eqb-true, eqb-false, not-true}
-use Rattle.wire.specs.Addresses.{unicast, multicast, allOnes}
+use Rattle.address.specs.Addresses.{unicast, multicast, allOnes}
 use Rattle.rows.proofs.Laws.{both-of, one-of, parts}
 use Rattle.route_entry.specs.declared.Route.{Route}
 use Rattle.prefix.specs.Prefix.{addressBits}

@@ -10,8 +10,9 @@ use lib.Dec.{eqb}
 use borrow.Author.Tests.{lt-ltb, ltb-true, eq-eqb, eqb-true}
 use Rattle.rows.proofs.Laws.{same-flag}
 use Rattle.wire.specs.Numbers.{be64, bytes, bytes64}
-use Rattle.wire.specs.Inside.{le, le64, octets}
-use Rattle.wire.proofs.Laws.{be-bytes, be-lt, octets-bytes, same-common}
+use Rattle.memory.specs.Inside.{le, le64, octets}
+use Rattle.wire.proofs.Laws.{be-bytes}
+use Rattle.memory.proofs.Laws.{be-lt, octets-bytes, same-common}
 use Rattle.interface.specs.Interface.{mostInterfaces}
 use Rattle.route_entry.specs.Route.{mapOk}
 use Rattle.route_entry.specs.Inside.{outsideMap}

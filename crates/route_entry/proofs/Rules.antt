@@ -9,8 +9,8 @@ use lib.Dec.{eqb}
 use borrow.Author.Tests.{lt-ltb, le-ltb, lt-leb, eq-eqb, ne-eqb, not-true, not-false}
 use Rattle.rows.proofs.Laws.{neither-of}
 use Rattle.wire.specs.Numbers.{be64}
-use Rattle.wire.specs.Inside.{le64, octets}
-use Rattle.wire.specs.Addresses.{unicast, allOnes}
+use Rattle.memory.specs.Inside.{le64, octets}
+use Rattle.address.specs.Addresses.{unicast, allOnes}
 use Rattle.route_entry.specs.declared.Route.{Route}
 use Rattle.interface.specs.Interface.{mostInterfaces}
 use Rattle.prefix.specs.Prefix.{zeroPast}

@@ -4,7 +4,7 @@ use Prim.Native.Nat.{ℕ, _-_, _^_}
 use mathlib.Core.Bool.{Bool, _&&_}
 use lib.Dec.{eqb}
 use Rattle.wire.specs.Numbers.{bytes64}
-use Rattle.wire.specs.Inside.{le64}
+use Rattle.memory.specs.Inside.{le64}
 use Rattle.route_entry.specs.declared.Route.{Route}
 use Rattle.interface.specs.Interface.{mostInterfaces}
 use Rattle.prefix.specs.Prefix.{zeroPast}

@@ -4,7 +4,7 @@ use mathlib.Core.Bool.{Bool, _&&_, _||_, not}
 use mathlib.Core.List.{List}
 use lib.Dec.{leb, ltb, eqb}
 use Rattle.wire.specs.Numbers.{byteAt, be16, be32, be64}
-use Rattle.wire.specs.Addresses.{unicast, multicast, allOnes}
+use Rattle.address.specs.Addresses.{unicast, multicast, allOnes}
 use Rattle.prefix.specs.Prefix.{addressBits, zeroPast}
 use Rattle.route_entry.specs.declared.Route.{Route}
 

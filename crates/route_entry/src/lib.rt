@@ -139,7 +139,7 @@ fn flags_ok(kind: u8, flags: u8) -> bool
 fn group_ok(kind: u8, group: u32) -> bool
     ensures { λ r. ⌜ r ≡ groupOk kind group ⌝ }
 {
-    ((kind == SOURCE_ONLY) & (group == 0)) | ((kind != SOURCE_ONLY) & wire::multicast(group))
+    ((kind == SOURCE_ONLY) & (group == 0)) | ((kind != SOURCE_ONLY) & address::multicast(group))
 }
 
 // Whether length, flags and group are right for a kind.
@@ -186,11 +186,11 @@ fn upward_ok(s: &[u8], at: usize, interfaces: u16) -> bool
     if interfaces <= incoming {
         return (incoming == UNKNOWN) & (wire::be32(s, at + 12) == 0);
     }
-    if wire::unicast(wire::be32(s, at + 12)) {
+    if address::unicast(wire::be32(s, at + 12)) {
         return true;
     }
     let upstream = wire::be32(s, at + 12);
-    (upstream == 0) | wire::all_ones(upstream)
+    (upstream == 0) | address::all_ones(upstream)
 }
 
 // The bits of a map that no interface has, where there are so many, in memory's order.
@@ -201,7 +201,7 @@ pub fn outside_map(interfaces: u16) -> u64
     if interfaces as usize == MOST_INTERFACES {
         return 0;
     }
-    wire::swapped64(ALL_BITS << interfaces)
+    memory::swapped64(ALL_BITS << interfaces)
 }
 
 // Whether no map has a bit of `outside`, those that no interface has. They are looked at one after the other, in memory's order: each
@@ -210,13 +210,13 @@ fn maps_ok(s: &[u8], at: usize, interfaces: u16, outside: u64) -> bool
     requires { ⌜ (at + routeFields ≤ length (now s)) × (interfaces ≤ mostInterfaces) × (outside ≡ outsideMap interfaces) ⌝ }
     ensures { λ r. ⌜ r ≡ mapsOk interfaces (routeAt (now (s .entry)) at) ⌝ }
 {
-    if wire::le64(s, at + 32) & outside != 0 {
+    if memory::le64(s, at + 32) & outside != 0 {
         return false;
     }
-    if wire::le64(s, at + 40) & outside != 0 {
+    if memory::le64(s, at + 40) & outside != 0 {
         return false;
     }
-    wire::le64(s, at + 48) & outside == 0
+    memory::le64(s, at + 48) & outside == 0
 }
 
 // Whether the route whose bytes begin at `at` keeps every rule on it, where there are so many interfaces; `outside` is the bits of a

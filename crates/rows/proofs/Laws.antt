@@ -157,3 +157,7 @@ none-joined (r ∷ rs) ss a b = (a .0, none-joined rs ss (a .1) b)
 pub none-split : (rs ss : List Row) → NoneApplies (rs ++ ss) → NoneApplies rs × NoneApplies ss
 none-split [] ss a = (tt, a)
 none-split (r ∷ rs) ss a = let later = none-split rs ss (a .1) in ((a .0, later .0), later .1)
+
+-- two things equal to a third
+pub both-are : {A : Type 0} {x a b : A} → a ≡ x → b ≡ x → a ≡ b
+both-are p q = p ∙ sym q

@@ -5,7 +5,7 @@ use mathlib.Core.List.{List}
 use Rattle.reply.specs.Copy.{copied}
 use Rattle.loss.specs.Loss.{written}
 use mathlib.Core.Path.{_≡_}
-use Rattle.wire.proofs.Laws.{both-are}
+use Rattle.rows.proofs.Laws.{both-are}
 use Rattle.clock.specs.declared.Tick.{Tick}
 use Rattle.engine.specs.Step.{outcome}
 use Rattle.servicebough.specs.Ticks.{TickMeets}

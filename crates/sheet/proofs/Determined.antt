@@ -1,6 +1,6 @@
 -- Two answers that meet a function's promise are equal: what each ensures is an equation.
 use mathlib.Core.Path.{_≡_}
-use Rattle.wire.proofs.Laws.{both-are}
+use Rattle.rows.proofs.Laws.{both-are}
 use Rattle.sheet.proofs.layout.check.Reads as check
 use Rattle.sheet.proofs.tables.interface_place.Reads as interface-place
 use Rattle.sheet.proofs.tables.route_place.Reads as route-place

@@ -1,7 +1,7 @@
 -- Two answers that meet what a function ensures are equal, and so are the texts that they leave.
 use denote.Ref.{now}
 use mathlib.Core.Path.{_≡_}
-use Rattle.wire.proofs.Laws.{both-are}
+use Rattle.rows.proofs.Laws.{both-are}
 use Rattle.text.proofs.blank.Reads as blank
 use Rattle.text.proofs.text_of.Reads as text-of
 

@@ -1,21 +1,14 @@
 -- Two answers that meet a function's promise are equal: what each ensures is an equation.
 use denote.Ref.{now}
 use mathlib.Core.Path.{_≡_}
-use Rattle.wire.proofs.Laws.{both-are}
+use Rattle.rows.proofs.Laws.{both-are}
 use Rattle.wire.proofs.be16.Reads as be16
 use Rattle.wire.proofs.be32.Reads as be32
 use Rattle.wire.proofs.be64.Reads as be64
-use Rattle.wire.proofs.le32.Reads as le32
-use Rattle.wire.proofs.le64.Reads as le64
-use Rattle.wire.proofs.swapped64.Reads as swapped64
 use Rattle.wire.proofs.put16.Reads as put16
 use Rattle.wire.proofs.put32.Reads as put32
 use Rattle.wire.proofs.put64.Reads as put64
 use Rattle.wire.proofs.copy_to.Reads as copy-to
-use Rattle.wire.proofs.unicast.Reads as unicast
-use Rattle.wire.proofs.multicast.Reads as multicast
-use Rattle.wire.proofs.link_scoped.Reads as link-scoped
-use Rattle.wire.proofs.all_ones.Reads as all-ones
 
 pub be16-determined : (κs : _) (a : _) (x y : _) (e f : _) → be16.Post κs a x e → be16.Post κs a y f → x ≡ y
 be16-determined κs a x y e f p q = both-are p q
@@ -25,15 +18,6 @@ be32-determined κs a x y e f p q = both-are p q
 
 pub be64-determined : (κs : _) (a : _) (x y : _) (e f : _) → be64.Post κs a x e → be64.Post κs a y f → x ≡ y
 be64-determined κs a x y e f p q = both-are p q
-
-pub le32-determined : (κs : _) (a : _) (x y : _) (e f : _) → le32.Post κs a x e → le32.Post κs a y f → x ≡ y
-le32-determined κs a x y e f p q = both-are (p .0) (q .0)
-
-pub le64-determined : (κs : _) (a : _) (x y : _) (e f : _) → le64.Post κs a x e → le64.Post κs a y f → x ≡ y
-le64-determined κs a x y e f p q = both-are (p .0) (q .0)
-
-pub swapped64-determined : (κs : _) (a : _) (x y : _) (e f : _) → swapped64.Post κs a x e → swapped64.Post κs a y f → x ≡ y
-swapped64-determined κs a x y e f p q = both-are p q
 
 pub put16-determined : (κs : _) (a : _) (x y : _) (e f : _) → put16.Post κs a x e → put16.Post κs a y f → now (e .0) ≡ now (f .0)
 put16-determined κs a x y e f p q = both-are p q
@@ -46,15 +30,3 @@ put64-determined κs a x y e f p q = both-are p q
 
 pub copy-to-determined : (κs : _) (a : _) (x y : _) (e f : _) → copy-to.Post κs a x e → copy-to.Post κs a y f → now (e .0) ≡ now (f .0)
 copy-to-determined κs a x y e f p q = both-are p q
-
-pub unicast-determined : (κs : _) (a : _) (x y : _) (e f : _) → unicast.Post κs a x e → unicast.Post κs a y f → x ≡ y
-unicast-determined κs a x y e f p q = both-are p q
-
-pub multicast-determined : (κs : _) (a : _) (x y : _) (e f : _) → multicast.Post κs a x e → multicast.Post κs a y f → x ≡ y
-multicast-determined κs a x y e f p q = both-are p q
-
-pub link-scoped-determined : (κs : _) (a : _) (x y : _) (e f : _) → link-scoped.Post κs a x e → link-scoped.Post κs a y f → x ≡ y
-link-scoped-determined κs a x y e f p q = both-are p q
-
-pub all-ones-determined : (κs : _) (a : _) (x y : _) (e f : _) → all-ones.Post κs a x e → all-ones.Post κs a y f → x ≡ y
-all-ones-determined κs a x y e f p q = both-are p q

@@ -10,7 +10,7 @@ use lib.Dec.{leb, eqb}
 use lib.ListN.{length, replicate}
 use Rattle.wire.specs.Numbers.{be, be16, be32, bytes}
 use Rattle.wire.specs.Parts.{splice}
-use Rattle.wire.specs.Addresses.{firstOctet, unicast}
+use Rattle.address.specs.Addresses.{firstOctet, unicast}
 use Rattle.rows.proofs.Laws.{both-of, first-or-none, none-is, first-is}
 use Rattle.wire.proofs.Laws.{be-within}
 use Rattle.recent.specs.Entries.{empty}

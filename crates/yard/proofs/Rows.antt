@@ -10,7 +10,7 @@ use lib.Dec.{eqb}
 use lib.ListN.{length, take, drop, drop-of-length-le, length-append}
 use lib.Seq.{take-append-seam}
 use Rattle.wire.specs.Numbers.{byteAt}
-use Rattle.wire.specs.Addresses.{multicast}
+use Rattle.address.specs.Addresses.{multicast}
 use Rattle.wire.proofs.Laws.{splice-front}
 use Rattle.message.specs.declared.Blocks.{Blocks}
 use Rattle.message.specs.Blocks.{blocksFrom, blocksBy, blocksOf, standardPlaces, standards, standardCount}

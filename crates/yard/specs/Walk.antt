@@ -8,7 +8,7 @@ use lib.Dec.{leb, ltb, eqb}
 use lib.ListN.{length, getD}
 use Rattle.wire.specs.Numbers.{byteAt}
 use Rattle.wire.specs.Parts.{splice}
-use Rattle.wire.specs.Addresses.{multicast}
+use Rattle.address.specs.Addresses.{multicast}
 use Rattle.rows.specs.Rows.{Row, row, byFirst}
 use Rattle.recent.specs.Entries.{empty}
 use Rattle.message.specs.Format.{request, noteSize}

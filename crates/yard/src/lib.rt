@@ -197,7 +197,7 @@ fn enter(
     if c.answer != engine::SENT_ON {
         return ended(c.answer, c);
     }
-    if wire::multicast(to) {
+    if address::multicast(to) {
         return ended(TO_GROUP, c);
     }
     let holder = holder_in(yard, counts, yard.len() / SHEET_SIZE, to);

@@ -1,6 +1,6 @@
 -- `reply_cases::bits` is safe and ends. What a number below 0 lacks to -1 is not below 0, and fits 32 bits.
 use mathlib.Core.Path.{_≡_, sym, _∙_, subst}
-use mathlib.Core.Bool.{true, false, not}
+use mathlib.Core.Bool.{not}
 use Prim.Native.Nat.{ℕ, suc}
 use native.Mathlib.Omega.{arith}
 use borrow.Author.Needs.{needs}

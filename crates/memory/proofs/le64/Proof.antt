@@ -1,8 +1,8 @@
 -- `le64`: the two halves by their weights are what `le` computes to.
-use Rattle.wire.specs.Inside.{le, octets}
+use Rattle.memory.specs.Inside.{le, octets}
 use borrow.Author.Needs.{needs}
-use Rattle.wire.proofs.le64.Statement.{statement}
-use Rattle.wire.proofs.le64.Tie as tie
+use Rattle.memory.proofs.le64.Statement.{statement}
+use Rattle.memory.proofs.le64.Tie as tie
 
 returns : tie.Need-returns
 unfolding le octets

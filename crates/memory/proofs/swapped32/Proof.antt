@@ -4,11 +4,11 @@ use mathlib.Core.Path.{_≡_}
 use native.Mathlib.Nat.{div-div-eq-div-mul}
 use native.Mathlib.Omega.{arith}
 use lib.Pow.{field, mod-mod-pow}
 use Rattle.wire.specs.Numbers.{bytes, bytes32}
-use Rattle.wire.specs.Inside.{le, le32}
+use Rattle.memory.specs.Inside.{le, le32}
 use borrow.Author.Needs.{needs}
-use Rattle.wire.proofs.swapped32.Statement.{statement}
-use Rattle.wire.proofs.swapped32.Tie as tie
+use Rattle.memory.proofs.swapped32.Statement.{statement}
+use Rattle.memory.proofs.swapped32.Tie as tie
 
 arranged : (a b c d e f g : ℕ) → e ≡ a → f ≡ b → g ≡ d → (a * 16777216 + b * 65536) + (c * 256 + d) ≡ (g + c * 256) + (f + e * 256) * 65536
 arranged a b c d e f g p q r = omega arith

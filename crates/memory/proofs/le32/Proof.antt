@@ -3,12 +3,12 @@ use Prim.Native.Nat.{ℕ, _+_, _*_, _<_}
 use mathlib.Core.List.{List}
 use mathlib.Core.Path.{_≡_, sym, _∙_}
 use native.Mathlib.Omega.{arith}
 use Rattle.wire.specs.Numbers.{byteAt}
-use Rattle.wire.specs.Inside.{le32, octets}
-use Rattle.wire.proofs.Laws.{le32-is}
+use Rattle.memory.specs.Inside.{le32, octets}
+use Rattle.memory.proofs.Laws.{le32-is}
 use borrow.Author.Needs.{needs}
-use Rattle.wire.proofs.le32.Statement.{statement}
-use Rattle.wire.proofs.le32.Tie as tie
+use Rattle.memory.proofs.le32.Statement.{statement}
+use Rattle.memory.proofs.le32.Tie as tie
 
 weighed : (s : List ℕ) (at n : ℕ) → n ≡ (byteAt s at + byteAt s (at + 1) * 256) + (byteAt s (at + 2) * 65536 + byteAt s (at + 3) * 16777216) → n ≡ le32 s at
 weighed s at n e = e ∙ sym (le32-is s at)

@@ -1,0 +1,2 @@
+-- Classes of IPv4 addresses.
+pub mod Addresses

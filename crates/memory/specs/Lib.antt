@@ -1,0 +1,2 @@
+-- Numbers in memory's order.
+pub mod Inside
