@@ -10,7 +10,8 @@ use Rattle.block.specs.Sum.{carried, sumFrom, sumOk}
 use Rattle.block.specs.Block.{frameOk}
 use Rattle.prefix.specs.Prefix.{hosts, samePrefix, zeroPast}
 use Rattle.interface.specs.Interface.{interfaceAt, interfaceOk}
-use Rattle.route_entry.specs.Route.{routeAt, routeOk}
+use Rattle.route_entry.specs.Route.{routeAt}
+use Rattle.route_rules.specs.Rules.{routeOk}
 use Rattle.sheet.specs.Every.{every, listed}
 use Rattle.sheet.specs.Rules.{blockOk}
 use Rattle.sheet.specs.Sheet.{interfaceBlocksIn, interfaceBlocks, entriesIn, interfacesIn, routesIn, interfaceBlockOk, routeBlockOk, blockOkWith, validSheet, counted, layoutOf}

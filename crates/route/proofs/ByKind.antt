@@ -11,9 +11,10 @@ use borrow.Author.Tests.{eqb-true, leb-true, ne-eqb, not-true, not-false}
 use Rattle.rows.proofs.Laws.{both-of}
 use Rattle.address.specs.Addresses.{firstOctet, multicast, allOnes}
 use Rattle.prefix.specs.Prefix.{samePrefix}
-use Rattle.route_entry.specs.Route.{sourceAndGroup, groupOnly, sourceOnly, routeAt, routeOk}
+use Rattle.route_entry.specs.Route.{sourceAndGroup, groupOnly, sourceOnly, routeAt}
+use Rattle.route_rules.specs.Rules.{routeOk}
 use Rattle.route_entry.specs.declared.Route.{Route}
-use Rattle.route_entry.proofs.Laws.{RouteKept, route-kept}
+use Rattle.route_rules.proofs.Laws.{RouteKept, route-kept}
 use Rattle.route.specs.declared.Best.{Best}
 use Rattle.route.specs.Choice.{servesBoth, servesGroup, servesSource}
 use Rattle.route.specs.Inside.{bothRank, groupRank, sourceRank, rankBy, rankOf, rankAt, ofSource, serves, rankAs, better}

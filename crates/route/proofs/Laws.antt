@@ -10,7 +10,7 @@ use Rattle.format.specs.Sizes.{Sound}
 use Rattle.format.specs.declared.Format.{Format}
 use Rattle.route_entry.specs.Route.{routeAt}
 use Rattle.route_entry.specs.declared.Route.{Route}
-use Rattle.route_entry.proofs.Laws.{RouteKept, route-kept}
+use Rattle.route_rules.proofs.Laws.{RouteKept, route-kept}
 use Rattle.sheet.specs.Sheet.{layoutOf}
 use Rattle.sheet.specs.Tables.{routeOf, routesOf}
 use Rattle.sheet.proofs.Laws.{route-keeps}

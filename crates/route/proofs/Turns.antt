@@ -12,10 +12,11 @@ use borrow.Author.Tests.{eq-eqb, ne-eqb, eqb-true}
 use Rattle.rows.proofs.Laws.{parts}
 use Rattle.format.specs.Sizes.{Sound, routeFields}
 use Rattle.format.specs.declared.Format.{Format}
-use Rattle.route_entry.specs.Route.{routeAt, routeOk, groupOnly}
+use Rattle.route_entry.specs.Route.{routeAt, groupOnly}
+use Rattle.route_rules.specs.Rules.{routeOk}
 use Rattle.prefix.specs.Prefix.{addressBits}
 use Rattle.route_entry.specs.declared.Route.{Route}
-use Rattle.route_entry.proofs.Laws.{route-kept}
+use Rattle.route_rules.proofs.Laws.{route-kept}
 use Rattle.sheet.specs.declared.layout.Layout.{Layout}
 use Rattle.sheet.specs.Every.{listed}
 use Rattle.sheet.specs.Sheet.{layoutOf}

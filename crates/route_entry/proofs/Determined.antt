@@ -9,8 +9,6 @@ use Rattle.route_entry.proofs.group_at.Reads as group-at
 use Rattle.route_entry.proofs.is_rp.Reads as is-rp
 use Rattle.route_entry.proofs.prune_sent.Reads as prune-sent
 use Rattle.route_entry.proofs.in_map.Reads as in-map
-use Rattle.route_entry.proofs.outside_map.Reads as outside-map
-use Rattle.route_entry.proofs.route_ok.Reads as route-ok
 
 pub route-at-determined : (κs : _) (a : _) (x y : _) (e f : _) → route-at.Post κs a x e → route-at.Post κs a y f → x ≡ y
 route-at-determined κs a x y e f p q = both-are p q
@@ -35,9 +33,3 @@ prune-sent-determined κs a x y e f p q = both-are p q
 
 pub in-map-determined : (κs : _) (a : _) (x y : _) (e f : _) → in-map.Post κs a x e → in-map.Post κs a y f → x ≡ y
 in-map-determined κs a x y e f p q = both-are p q
-
-pub outside-map-determined : (κs : _) (a : _) (x y : _) (e f : _) → outside-map.Post κs a x e → outside-map.Post κs a y f → x ≡ y
-outside-map-determined κs a x y e f p q = both-are p q
-
-pub route-ok-determined : (κs : _) (a : _) (x y : _) (e f : _) → route-ok.Post κs a x e → route-ok.Post κs a y f → x ≡ y
-route-ok-determined κs a x y e f p q = both-are p q

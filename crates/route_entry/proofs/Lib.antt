@@ -1,5 +1,2 @@
--- Laws that the crates above cite; and `Determined`: each promise leaves one answer.
-mod Masks
-mod Rules
-pub mod Laws
+-- Each promise leaves one answer.
 pub mod Determined

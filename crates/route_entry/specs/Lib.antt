@@ -1,3 +1,2 @@
--- The routes of a sheet (document 01, "Sheet"): their fields, and the rules on each by itself.
+-- The routes of a sheet (document 01, "Sheet"): their fields.
 pub mod Route
-pub mod Inside

@@ -11,7 +11,7 @@ use Rattle.block.specs.Block.{blockSize, placeInBlock, entriesEach}
 use Rattle.format.specs.Sizes.{Sound}
 use Rattle.format.specs.declared.Format.{Format}
 use Rattle.interface.specs.Interface.{mostInterfaces, interfaceOk}
-use Rattle.route_entry.specs.Route.{routeOk}
+use Rattle.route_rules.specs.Rules.{routeOk}
 use Rattle.sheet.specs.Rules.{interfaceKind, routeKind, interfaceRight, routeRight}
 use Rattle.sheet.specs.Sheet.{blocks, interfaceBlocks, interfacesIn, routesIn, validSheet, noLayout, counted, layoutOf}
 use Rattle.sheet.specs.Tables.{placeOf, interfaceOf, routeOf}

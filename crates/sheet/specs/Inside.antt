@@ -6,7 +6,8 @@ use mathlib.Core.Path.{_≡_}
 use lib.ListN.{length}
 use Rattle.block.specs.Block.{kindOf, entriesEach}
 use Rattle.format.specs.declared.Format.{Format}
-use Rattle.route_entry.specs.Route.{routeAt, routeOk}
+use Rattle.route_entry.specs.Route.{routeAt}
+use Rattle.route_rules.specs.Rules.{routeOk}
 use Rattle.sheet.specs.Rules.{interfaceKind}
 use Rattle.sheet.specs.Sheet.{sheetBlock, layoutOf}
 

@@ -6,7 +6,8 @@ use lib.Dec.{eqb}
 use Rattle.block.specs.Block.{usedIn, switchesOf, placeInBlock, frameOk}
 use Rattle.format.specs.declared.Format.{Format}
 use Rattle.interface.specs.Interface.{interfaceAt, interfaceOk}
-use Rattle.route_entry.specs.Route.{routeAt, routeOk}
+use Rattle.route_entry.specs.Route.{routeAt}
+use Rattle.route_rules.specs.Rules.{routeOk}
 use Rattle.sheet.specs.Every.{every}
 
 -- the kind of an interface block

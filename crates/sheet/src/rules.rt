@@ -53,10 +53,10 @@ fn routes_ok(f: Format, b: &[u8], used: usize, interfaces: u16) -> bool
     requires { ⌜ (length (now b) ≡ blockSize) × (used ≤ entriesEach (f .route)) × (interfaces ≤ mostInterfaces) ⌝ }
     ensures { λ r. ⌜ r ≡ entriesOk (f .route) (routeRight interfaces) (now (b .entry)) used ⌝ }
 {
-    let outside = route_entry::outside_map(interfaces);
+    let outside = route_rules::outside_map(interfaces);
     let mut j: usize = 0;
     while j < used {
-        if !route_entry::route_ok(b, block::ENTRIES_AT + f.route * j, interfaces, outside) {
+        if !route_rules::route_ok(b, block::ENTRIES_AT + f.route * j, interfaces, outside) {
             return false;
         }
         j += 1;

@@ -1,7 +1,7 @@
 -- `fits_kind`: the tests of the definition, with the callees' answers.
 use borrow.Author.Needs.{needs}
-use Rattle.route_entry.proofs.fits_kind.Statement.{statement}
-use Rattle.route_entry.proofs.fits_kind.Tie as tie
+use Rattle.route_rules.proofs.fits_kind.Statement.{statement}
+use Rattle.route_rules.proofs.fits_kind.Tie as tie
 
 returns : tie.Need-returns
 returns c = cc

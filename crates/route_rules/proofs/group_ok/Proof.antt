@@ -1,7 +1,7 @@
 -- `group_ok`: the test of the definition, with the callee's answer.
 use borrow.Author.Needs.{needs}
-use Rattle.route_entry.proofs.group_ok.Statement.{statement}
-use Rattle.route_entry.proofs.group_ok.Tie as tie
+use Rattle.route_rules.proofs.group_ok.Statement.{statement}
+use Rattle.route_rules.proofs.group_ok.Tie as tie
 
 returns : tie.Need-returns
 returns c = cc

@@ -7,9 +7,10 @@ use lib.Dec.{ltb, eqb}
 use borrow.Author.Tests.{leb-true, ltb-true, eqb-true, eqb-false, not-true}
 use Rattle.address.specs.Addresses.{unicast, multicast, allOnes}
 use Rattle.rows.proofs.Laws.{both-of, one-of, parts}
 use Rattle.route_entry.specs.declared.Route.{Route}
 use Rattle.prefix.specs.Prefix.{addressBits}
-use Rattle.route_entry.specs.Route.{sourceAndGroup, groupOnly, sourceOnly, unknown, groupOk, incomingOk, upstreamOk, routeOk}
+use Rattle.route_entry.specs.Route.{sourceAndGroup, groupOnly, sourceOnly, unknown}
+use Rattle.route_rules.specs.Rules.{groupOk, incomingOk, upstreamOk, routeOk}
 
 -- a route among so many interfaces
 pub record RouteKept (interfaces : ℕ) (r : Route) : Type 0 where

@@ -1,9 +1,9 @@
 -- `upward_ok`: no interface here, or one of them with its upstream.
 use Rattle.route_entry.specs.Route.{routeAt}
-use Rattle.route_entry.proofs.Rules.{upward-far, upward-unicast, upward-other}
+use Rattle.route_rules.proofs.Rules.{upward-far, upward-unicast, upward-other}
 use borrow.Author.Needs.{needs}
-use Rattle.route_entry.proofs.upward_ok.Statement.{statement}
-use Rattle.route_entry.proofs.upward_ok.Tie as tie
+use Rattle.route_rules.proofs.upward_ok.Statement.{statement}
+use Rattle.route_rules.proofs.upward_ok.Tie as tie
 
 returns : tie.Need-returns
 unfolding routeAt

@@ -1,9 +1,9 @@
 -- `route_ok`: left at the first group of rules that is broken.
 use Rattle.route_entry.specs.Route.{routeAt}
-use Rattle.route_entry.proofs.Rules.{wrong-kind, wrong-zeros, wrong-upward, as-maps}
+use Rattle.route_rules.proofs.Rules.{wrong-kind, wrong-zeros, wrong-upward, as-maps}
 use borrow.Author.Needs.{needs}
-use Rattle.route_entry.proofs.route_ok.Statement.{statement}
-use Rattle.route_entry.proofs.route_ok.Tie as tie
+use Rattle.route_rules.proofs.route_ok.Statement.{statement}
+use Rattle.route_rules.proofs.route_ok.Tie as tie
 
 returns : tie.Need-returns
 unfolding routeAt

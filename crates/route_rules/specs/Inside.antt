@@ -5,10 +5,10 @@ use mathlib.Core.Bool.{Bool, _&&_}
 use lib.Dec.{eqb}
 use Rattle.wire.specs.Numbers.{bytes64}
 use Rattle.memory.specs.Inside.{le64}
 use Rattle.route_entry.specs.declared.Route.{Route}
 use Rattle.interface.specs.Interface.{mostInterfaces}
 use Rattle.prefix.specs.Prefix.{zeroPast}
-use Rattle.route_entry.specs.Route.{lengthOk, flagsOk, groupOk, incomingOk, upstreamOk, mapOk}
+use Rattle.route_rules.specs.Rules.{lengthOk, flagsOk, groupOk, incomingOk, upstreamOk, mapOk}
 
 -- length, flags and group, for a kind
 abbrev pub fitsKind : ℕ → ℕ → ℕ → ℕ → Bool

@@ -1,8 +1,8 @@
 -- `outside_map`: none for 64 interfaces, else ones shifted up past the last.
-use Rattle.route_entry.proofs.Masks.{outside-none, outside-some}
+use Rattle.route_rules.proofs.Masks.{outside-none, outside-some}
 use borrow.Author.Needs.{needs}
-use Rattle.route_entry.proofs.outside_map.Statement.{statement}
-use Rattle.route_entry.proofs.outside_map.Tie as tie
+use Rattle.route_rules.proofs.outside_map.Statement.{statement}
+use Rattle.route_rules.proofs.outside_map.Tie as tie
 
 returns : tie.Need-returns
 returns c = search outside-none

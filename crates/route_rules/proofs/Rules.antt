@@ -11,12 +11,13 @@ use Rattle.rows.proofs.Laws.{neither-of}
 use Rattle.wire.specs.Numbers.{be64}
 use Rattle.memory.specs.Inside.{le64, octets}
 use Rattle.address.specs.Addresses.{unicast, allOnes}
 use Rattle.route_entry.specs.declared.Route.{Route}
 use Rattle.interface.specs.Interface.{mostInterfaces}
 use Rattle.prefix.specs.Prefix.{zeroPast}
-use Rattle.route_entry.specs.Route.{sourceAndGroup, groupOnly, sourceOnly, unknown, kindOk, lengthOk, flagsOk, groupOk, incomingOk, upstreamOk, mapOk, routeAt, routeOk}
-use Rattle.route_entry.specs.Inside.{outsideMap, fitsKind, zerosOk, upwardOk, mapsOk}
-use Rattle.route_entry.proofs.Masks.{map-outside}
+use Rattle.route_entry.specs.Route.{sourceAndGroup, groupOnly, sourceOnly, unknown, routeAt}
+use Rattle.route_rules.specs.Rules.{kindOk, lengthOk, flagsOk, groupOk, incomingOk, upstreamOk, mapOk, routeOk}
+use Rattle.route_rules.specs.Inside.{outsideMap, fitsKind, zerosOk, upwardOk, mapsOk}
+use Rattle.route_rules.proofs.Masks.{map-outside}
 
 -- one of the three kinds, and none of them
 pub of-kind : (k kind bits flags group : ℕ) (x : Bool) → kindOk k ≡ true → kind ≡ k → x ≡ fitsKind k bits flags group

@@ -1,8 +1,8 @@
 -- `maps_ok`: left at the first map that has a bit too many.
-use Rattle.route_entry.proofs.Rules.{maps-first, maps-second, maps-third}
+use Rattle.route_rules.proofs.Rules.{maps-first, maps-second, maps-third}
 use borrow.Author.Needs.{needs}
-use Rattle.route_entry.proofs.maps_ok.Statement.{statement}
-use Rattle.route_entry.proofs.maps_ok.Tie as tie
+use Rattle.route_rules.proofs.maps_ok.Statement.{statement}
+use Rattle.route_rules.proofs.maps_ok.Tie as tie
 
 returns : tie.Need-returns
 returns c = search maps-first

@@ -14,8 +14,8 @@ use Rattle.memory.specs.Inside.{le, le64, octets}
 use Rattle.wire.proofs.Laws.{be-bytes}
 use Rattle.memory.proofs.Laws.{be-lt, octets-bytes, same-common}
 use Rattle.interface.specs.Interface.{mostInterfaces}
-use Rattle.route_entry.specs.Route.{mapOk}
-use Rattle.route_entry.specs.Inside.{outsideMap}
+use Rattle.route_rules.specs.Rules.{mapOk}
+use Rattle.route_rules.specs.Inside.{outsideMap}
 
 -- ones shifted up by k: ones in all bits but the last k
 one-less : (a b : ℕ) → 0 < b → a * b ≡ (b - 1) * a + a

@@ -1,8 +1,8 @@
 -- `kind_ok`: each kind by its own call, and no other kind.
-use Rattle.route_entry.proofs.Rules.{of-kind, of-no-kind}
+use Rattle.route_rules.proofs.Rules.{of-kind, of-no-kind}
 use borrow.Author.Needs.{needs}
-use Rattle.route_entry.proofs.kind_ok.Statement.{statement}
-use Rattle.route_entry.proofs.kind_ok.Tie as tie
+use Rattle.route_rules.proofs.kind_ok.Statement.{statement}
+use Rattle.route_rules.proofs.kind_ok.Tie as tie
 
 returns : tie.Need-returns
 returns c = search of-kind

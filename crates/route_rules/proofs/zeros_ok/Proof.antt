@@ -1,9 +1,9 @@
 -- `zeros_ok`: the zeros, then the source past its length.
 use Rattle.route_entry.specs.Route.{routeAt}
-use Rattle.route_entry.proofs.Rules.{zeros-wrong, zeros-right}
+use Rattle.route_rules.proofs.Rules.{zeros-wrong, zeros-right}
 use borrow.Author.Needs.{needs}
-use Rattle.route_entry.proofs.zeros_ok.Statement.{statement}
-use Rattle.route_entry.proofs.zeros_ok.Tie as tie
+use Rattle.route_rules.proofs.zeros_ok.Statement.{statement}
+use Rattle.route_rules.proofs.zeros_ok.Tie as tie
 
 returns : tie.Need-returns
 unfolding routeAt
