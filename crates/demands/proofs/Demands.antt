@@ -13,7 +13,7 @@ use Rattle.clock.specs.Clock.{startOf, advanceOf, arrivalOf}
 use Rattle.clock.specs.Unix.{unixOf}
 use Rattle.response.specs.declared.Block.{Block}
 use Rattle.response.specs.Bytes.{blockBytes}
-use Rattle.sheet.specs.Tables.{interfaceOf}
+use Rattle.tables.specs.Tables.{interfaceOf}
 use Rattle.drops.proofs.Laws.{taken}
 use Rattle.response.proofs.Laws.{ipv4-writes}
 use Rattle.engine.proofs.Laws.{sent-on-fits}

@@ -12,10 +12,10 @@ use Rattle.prefix.specs.Prefix.{hosts, samePrefix, zeroPast}
 use Rattle.interface.specs.Interface.{interfaceAt, interfaceOk}
 use Rattle.route_entry.specs.Route.{routeAt}
 use Rattle.route_rules.specs.Rules.{routeOk}
-use Rattle.sheet.specs.Every.{every, listed}
-use Rattle.sheet.specs.Rules.{blockOk}
+use Rattle.sheet_block.specs.Every.{every, listed}
+use Rattle.sheet_block.specs.Rules.{blockOk}
 use Rattle.sheet.specs.Sheet.{interfaceBlocksIn, interfaceBlocks, entriesIn, interfacesIn, routesIn, interfaceBlockOk, routeBlockOk, blockOkWith, validSheet, counted, layoutOf}
-use Rattle.sheet.specs.Tables.{interfaceOf, routeOf, interfacesOf, routesOf, prohibitedOf, holderFrom, holderOf}
+use Rattle.tables.specs.Tables.{interfaceOf, routeOf, interfacesOf, routesOf, prohibitedOf, holderFrom, holderOf}
 use Rattle.route.specs.Choice.{servesBoth, servesGroup, servesSource, longer, longestBy, orElse, whichRoute}
 use Rattle.route.specs.LastHop.{reaches, someReaches, properLastHop}
 use Rattle.response.specs.Code.{codes}

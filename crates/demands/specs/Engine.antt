@@ -13,7 +13,7 @@ use Rattle.recent.specs.Entries.{enteredIn}
 use Rattle.interface.specs.declared.Interface.{Interface}
 use Rattle.route_entry.specs.Route.{unknown}
 use Rattle.route_entry.specs.declared.Route.{Route}
-use Rattle.sheet.specs.Tables.{interfaceOf, prohibitedOf}
+use Rattle.tables.specs.Tables.{interfaceOf, prohibitedOf}
 use Rattle.route.specs.declared.Chosen.{Chosen}
 use Rattle.route.specs.declared.Chosen.the-variants.{Found, Nothing}
 use Rattle.response.specs.declared.Block.{Block}

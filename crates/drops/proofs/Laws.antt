@@ -14,7 +14,7 @@ use Rattle.address.specs.Addresses.{linkScoped}
 use Rattle.recent.specs.Layout.{wellFormed}
 use Rattle.recent.specs.Entries.{seenIn}
 use Rattle.sheet.specs.Sheet.{layoutOf}
-use Rattle.sheet.specs.Tables.{holderOf}
+use Rattle.tables.specs.Tables.{holderOf}
 use Rattle.message.specs.Format.{noteSize}
 use Rattle.message.specs.Header.{headerOf}
 use Rattle.message.specs.Blocks.{standardCount}

@@ -6,11 +6,11 @@ use mathlib.Core.Path.{_≡_, refl, sym, ap, _∙_}
 use lib.Dec.{eqb}
 use borrow.Author.Tests.{eq-eqb, ne-eqb}
 use Rattle.address.specs.Addresses.{linkScoped}
-use Rattle.sheet.specs.declared.layout.Layout.{Layout}
-use Rattle.sheet.specs.declared.tables.Holding.{Holding}
-use Rattle.sheet.specs.declared.tables.Holding.the-variants.{At, Nowhere}
+use Rattle.sheet.specs.declared.Layout.{Layout}
+use Rattle.tables.specs.declared.Holding.{Holding}
+use Rattle.tables.specs.declared.Holding.the-variants.{At, Nowhere}
 use Rattle.sheet.specs.Sheet.{layoutOf}
-use Rattle.sheet.specs.Tables.{interfaceOf, routesOf, holderOf}
+use Rattle.tables.specs.Tables.{interfaceOf, routesOf, holderOf}
 use Rattle.route.specs.declared.Chosen.{Chosen}
 use Rattle.route.specs.Choice.{whichRoute}
 use Rattle.route.specs.LastHop.{properLastHop}

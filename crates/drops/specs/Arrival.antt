@@ -4,7 +4,7 @@ use mathlib.Core.Bool.{Bool}
 use mathlib.Core.List.{List}
 use lib.Dec.{eqb}
 use Rattle.sheet.specs.Sheet.{layoutOf}
-use Rattle.sheet.specs.Tables.{interfaceOf, routesOf}
+use Rattle.tables.specs.Tables.{interfaceOf, routesOf}
 use Rattle.route.specs.Choice.{whichRoute}
 use Rattle.route.specs.LastHop.{properLastHop}
 use Rattle.route.specs.declared.Chosen.{Chosen}

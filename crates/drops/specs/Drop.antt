@@ -8,11 +8,11 @@ use Rattle.rows.specs.Rows.{Row, row, firstOf}
 use Rattle.address.specs.Addresses.{linkScoped}
 use Rattle.recent.specs.Layout.{wellFormed}
 use Rattle.recent.specs.Entries.{seenIn}
-use Rattle.sheet.specs.declared.layout.Layout.{Layout}
-use Rattle.sheet.specs.declared.tables.Holding.{Holding}
-use Rattle.sheet.specs.declared.tables.Holding.the-variants.{At, Nowhere}
+use Rattle.sheet.specs.declared.Layout.{Layout}
+use Rattle.tables.specs.declared.Holding.{Holding}
+use Rattle.tables.specs.declared.Holding.the-variants.{At, Nowhere}
 use Rattle.sheet.specs.Sheet.{layoutOf}
-use Rattle.sheet.specs.Tables.{holderOf}
+use Rattle.tables.specs.Tables.{holderOf}
 use Rattle.message.specs.declared.Header.{Header}
 use Rattle.message.specs.Format.{noteSize}
 use Rattle.message.specs.Header.{headerOf}

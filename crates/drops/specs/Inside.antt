@@ -5,7 +5,7 @@ use mathlib.Core.Bool.{false, _&&_}
 use mathlib.Core.List.{List, [], _++_}
 use lib.ListN.{take, drop}
 use Rattle.rows.specs.Rows.{Row, byFirst}
-use Rattle.sheet.specs.declared.layout.Layout.{Layout}
+use Rattle.sheet.specs.declared.Layout.{Layout}
 use Rattle.sheet.specs.Sheet.{noLayout}
 use Rattle.route.specs.declared.Chosen.the-variants.{Nothing}
 use Rattle.message.specs.declared.Header.{Header}

@@ -11,7 +11,7 @@ ghost use Rattle.format.specs.Sizes.{Sound};
 ghost use Rattle.recent.specs.Inside.{Formed};
 ghost use Rattle.recent.specs.Entries.{seenIn};
 ghost use Rattle.sheet.specs.Sheet.{layoutOf};
-ghost use Rattle.sheet.specs.Tables.{interfaceOf, holderOf};
+ghost use Rattle.tables.specs.Tables.{interfaceOf, holderOf};
 ghost use Rattle.route.specs.LastHop.{properLastHop};
 ghost use Rattle.drops.specs.Arrival.{arrival, isQuery};
 ghost use Rattle.rows.specs.Rows.{firstOf};
@@ -81,10 +81,10 @@ fn is_held(f: Format, sheet: &[u8], interfaces: usize, address: u32) -> bool
     requires { ⌜ interfaces ≡ layoutOf f (now sheet) .interfaces ⌝ }
     ensures { λ r. ⌜ r ≡ isHeld (holderOf f (now (sheet .entry)) address) ⌝ }
 {
-    let found = sheet::holder(f, sheet, interfaces, address);
+    let found = tables::holder(f, sheet, interfaces, address);
     match found {
-        sheet::Holding::At(_) => true,
-        sheet::Holding::Nowhere => false,
+        tables::Holding::At(_) => true,
+        tables::Holding::Nowhere => false,
     }
 }
 

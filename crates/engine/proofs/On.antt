@@ -16,9 +16,10 @@ use Rattle.recent.specs.Entries.{empty}
 use Rattle.recent.proofs.Laws.{empty-well-formed}
 use Rattle.route_entry.specs.Route.{unknown, isRp}
 use Rattle.route_entry.specs.declared.Route.{Route}
-use Rattle.sheet.specs.declared.tables.Holding.the-variants.{At}
-use Rattle.sheet.specs.Tables.{interfaceOf, routesOf, holderOf}
-use Rattle.sheet.proofs.Laws.{valid-told, interface-valid, holder-there}
+use Rattle.tables.specs.declared.Holding.the-variants.{At}
+use Rattle.tables.specs.Tables.{interfaceOf, routesOf, holderOf}
+use Rattle.sheet.proofs.Laws.{valid-told, interface-valid}
+use Rattle.tables.proofs.Laws.{holder-there}
 use Rattle.route.specs.declared.Chosen.{Chosen}
 use Rattle.route.specs.declared.Chosen.the-variants.{Found, Nothing}
 use Rattle.route.specs.Choice.{whichRoute}

@@ -12,9 +12,10 @@ use Rattle.route_entry.specs.Route.{unknown}
 use Rattle.interface.specs.declared.Interface.{Interface}
 use Rattle.route_entry.specs.declared.Route.{Route}
 use Rattle.sheet.specs.Sheet.{layoutOf}
-use Rattle.sheet.specs.Tables.{interfaceOf, prohibitedOf}
+use Rattle.tables.specs.Tables.{interfaceOf, prohibitedOf}
 use Rattle.block.specs.Block.{blockSize}
-use Rattle.sheet.proofs.Laws.{interface-valid, valid-told, valid-long}
+use Rattle.sheet.proofs.Laws.{interface-valid, valid-told}
+use Rattle.tables.proofs.Laws.{valid-long}
 use Rattle.route.specs.declared.Chosen.{Chosen}
 use Rattle.route.specs.declared.Chosen.the-variants.{Found, Nothing}
 use Rattle.response.specs.declared.Incoming.{Incoming}

@@ -11,7 +11,7 @@ use lib.ListN.{length, set, length-set, length-append}
 use lib.Seq.{getD-append-add, set-append-left}
 use Rattle.wire.specs.Numbers.{byteAt}
 use Rattle.rows.proofs.Laws.{cond-cases, none-is, first-is}
-use Rattle.sheet.specs.Tables.{interfaceOf}
+use Rattle.tables.specs.Tables.{interfaceOf}
 use Rattle.route.specs.declared.Chosen.the-variants.{Nothing}
 use Rattle.response.specs.declared.View.{View}
 use Rattle.response.specs.declared.Block.{Block}

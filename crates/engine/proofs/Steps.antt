@@ -12,9 +12,10 @@ use Rattle.interface.specs.declared.Interface.{Interface}
 use Rattle.recent.specs.Inside.{Formed}
 use Rattle.recent.proofs.Laws.{formed}
 use Rattle.sheet.specs.Sheet.{layoutOf}
-use Rattle.sheet.specs.Tables.{interfaceOf, prohibitedOf}
+use Rattle.tables.specs.Tables.{interfaceOf, prohibitedOf}
 use Rattle.interface.proofs.Laws.{mtu-least}
-use Rattle.sheet.proofs.Laws.{interface-few, interface-keeps}
+use Rattle.sheet.proofs.Laws.{interface-few}
+use Rattle.tables.proofs.Laws.{interface-keeps}
 use Rattle.route.specs.declared.Chosen.{Chosen}
 use Rattle.route.specs.declared.Chosen.the-variants.{Found, Nothing}
 use Rattle.route.proofs.Laws.{chosen-kept}

@@ -7,7 +7,7 @@ use lib.ListN.{length}
 use Rattle.recent.specs.Inside.{Formed}
 use Rattle.interface.specs.Interface.{mostInterfaces}
 use Rattle.sheet.specs.Sheet.{layoutOf}
-use Rattle.sheet.specs.Tables.{interfaceOf}
+use Rattle.tables.specs.Tables.{interfaceOf}
 use Rattle.response.specs.declared.View.{View}
 use Rattle.response.specs.Inside.{RouteFits}
 use Rattle.message.specs.declared.Header.{Header}

@@ -4,7 +4,7 @@ use mathlib.Core.List.{List}
 use Rattle.format.specs.declared.Format.{Format}
 use Rattle.format.specs.Sizes.{roomOf}
 use Rattle.interface.specs.declared.Interface.{Interface}
-use Rattle.sheet.specs.Tables.{interfaceOf}
+use Rattle.tables.specs.Tables.{interfaceOf}
 use Rattle.route.specs.declared.Chosen.{Chosen}
 use Rattle.response.specs.declared.Incoming.{Incoming}
 use Rattle.response.specs.declared.Incoming.the-variants.{Known, Unknown}

@@ -4,7 +4,7 @@ use mathlib.Core.Bool.{Bool, cond}
 use mathlib.Core.List.{List}
 use lib.Dec.{eqb}
 use Rattle.route_entry.specs.Route.{unknown}
-use Rattle.sheet.specs.Tables.{interfaceOf, prohibitedOf}
+use Rattle.tables.specs.Tables.{interfaceOf, prohibitedOf}
 use Rattle.route.specs.declared.Chosen.{Chosen}
 use Rattle.route.specs.declared.Chosen.the-variants.{Found, Nothing}
 use Rattle.response.specs.declared.View.{View}

@@ -52,7 +52,7 @@ fn incoming_for(f: Format, sheet: &[u8], chosen: Chosen) -> Incoming
             }
             Incoming::Known(interface::interface_at(
                 sheet,
-                sheet::interface_place(f, r.incoming as usize),
+                tables::interface_place(f, r.incoming as usize),
             ))
         }
         Chosen::Nothing => Incoming::Unknown,
@@ -167,9 +167,9 @@ fn view_with(
         proper,
         chosen,
         incoming: incoming_for(f, sheet, chosen),
-        prohibited: sheet::prohibited(sheet),
+        prohibited: tables::prohibited(sheet),
         number: receiving,
-        here: interface::interface_at(sheet, sheet::interface_place(f, receiving as usize)),
+        here: interface::interface_at(sheet, tables::interface_place(f, receiving as usize)),
         group: h.group,
         time,
     }

@@ -12,8 +12,8 @@ use Rattle.route_entry.specs.Route.{routeAt}
 use Rattle.route_entry.specs.declared.Route.{Route}
 use Rattle.route_rules.proofs.Laws.{RouteKept, route-kept}
 use Rattle.sheet.specs.Sheet.{layoutOf}
-use Rattle.sheet.specs.Tables.{routeOf, routesOf}
-use Rattle.sheet.proofs.Laws.{route-keeps}
+use Rattle.tables.specs.Tables.{routeOf, routesOf}
+use Rattle.tables.proofs.Laws.{route-keeps}
 use Rattle.route.specs.declared.Chosen.{Chosen}
 use Rattle.route.specs.declared.Chosen.the-variants.{Found, Nothing}
 use Rattle.route.specs.Choice.{whichRoute}

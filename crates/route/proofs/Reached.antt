@@ -18,10 +18,11 @@ use Rattle.interface.specs.Interface.{mostInterfaces, isMulticast}
 use Rattle.interface.specs.declared.Interface.{Interface}
 use Rattle.route_entry.specs.declared.Route.{Route}
 use Rattle.interface.proofs.Laws.{interface-short}
-use Rattle.sheet.specs.declared.layout.Layout.{Layout}
+use Rattle.sheet.specs.declared.Layout.{Layout}
 use Rattle.sheet.specs.Sheet.{layoutOf}
-use Rattle.sheet.specs.Tables.{interfaceOf}
-use Rattle.sheet.proofs.Laws.{interface-few, interface-keeps}
+use Rattle.tables.specs.Tables.{interfaceOf}
+use Rattle.sheet.proofs.Laws.{interface-few}
+use Rattle.tables.proofs.Laws.{interface-keeps}
 use Rattle.route.specs.declared.Chosen.{Chosen}
 use Rattle.route.specs.declared.Chosen.the-variants.{Found, Nothing}
 use Rattle.route.specs.Inside.{reachesBy}

@@ -17,12 +17,12 @@ use Rattle.route_rules.specs.Rules.{routeOk}
 use Rattle.prefix.specs.Prefix.{addressBits}
 use Rattle.route_entry.specs.declared.Route.{Route}
 use Rattle.route_rules.proofs.Laws.{route-kept}
-use Rattle.sheet.specs.declared.layout.Layout.{Layout}
-use Rattle.sheet.specs.Every.{listed}
+use Rattle.sheet.specs.declared.Layout.{Layout}
+use Rattle.sheet_block.specs.Every.{listed}
 use Rattle.sheet.specs.Sheet.{layoutOf}
-use Rattle.sheet.specs.Tables.{placeOf, routePlace, routeOf, routesOf}
-use Rattle.sheet.specs.Inside.{routesBeside, Beside}
-use Rattle.sheet.proofs.Laws.{route-keeps, route-bytes, beside-place}
+use Rattle.tables.specs.Tables.{placeOf, routePlace, routeOf, routesOf}
+use Rattle.tables.specs.Inside.{routesBeside, Beside}
+use Rattle.tables.proofs.Laws.{route-keeps, route-bytes, beside-place}
 use Rattle.route.specs.declared.Best.{Best}
 use Rattle.route.specs.declared.Chosen.the-variants.{Found, Nothing}
 use Rattle.route.specs.Choice.{servesGroup, whichRoute}

@@ -12,7 +12,7 @@ use Rattle.interface.specs.Interface.{isMulticast}
 use Rattle.route_entry.specs.Route.{groupOnly, sourceOnly, routeAt}
 use Rattle.interface.specs.declared.Interface.{Interface}
 use Rattle.route_entry.specs.declared.Route.{Route}
-use Rattle.sheet.specs.Tables.{routePlace}
+use Rattle.tables.specs.Tables.{routePlace}
 use Rattle.route.specs.declared.Best.{Best}
 use Rattle.route.specs.Choice.{servesBoth, servesGroup, servesSource}
 

@@ -11,8 +11,8 @@ ghost use Rattle.format.specs.Sizes.{Sound, routeFields};
 ghost use Rattle.route_entry.specs.Route.{routeAt};
 ghost use Rattle.route_rules.specs.Rules.{routeOk};
 ghost use Rattle.sheet.specs.Sheet.{layoutOf};
-ghost use Rattle.sheet.specs.Tables.{interfaceOf, routesOf};
-ghost use Rattle.sheet.specs.Inside.{Beside};
+ghost use Rattle.tables.specs.Tables.{interfaceOf, routesOf};
+ghost use Rattle.tables.specs.Inside.{Beside};
 ghost use Rattle.route.specs.Choice.{whichRoute};
 ghost use Rattle.route.specs.LastHop.{someReaches, properLastHop};
 ghost use Rattle.route.specs.Inside.{ofSource, serves, rankAs, rankAt, better, bestWith, bestOf, reachesBy};
@@ -144,8 +144,8 @@ fn best_of(f: Format, s: &[u8], l: Layout, source: u32, group: u32) -> Best
     let mut b = Best { rank: 0, at: 0 };
     let mut k: usize = 0;
     while k < l.routes {
-        let count = sheet::routes_beside(f, l, k);
-        b = best_in(f, s, sheet::route_place(f, l, k), count, b, source, group);
+        let count = tables::routes_beside(f, l, k);
+        b = best_in(f, s, tables::route_place(f, l, k), count, b, source, group);
         k += count;
     }
     b
@@ -173,7 +173,7 @@ fn reaches(f: Format, s: &[u8], map: u64, k: usize, client: u32) -> bool
     if map % 2 == 0 {
         return false;
     }
-    let i = interface::interface_at(s, sheet::interface_place(f, k));
+    let i = interface::interface_at(s, tables::interface_place(f, k));
     interface::is_multicast(i) & prefix::same_prefix(i.length, i.address, client)
 }
 

@@ -10,12 +10,12 @@ use Rattle.wire.proofs.Laws.{wholes}
 use Rattle.block.specs.Block.{blockSize, entriesEach}
 use Rattle.format.specs.declared.Format.{Format}
 use Rattle.interface.specs.Interface.{mostInterfaces}
-use Rattle.sheet.specs.Every.{every}
+use Rattle.sheet_block.specs.Every.{every}
 use Rattle.sheet.specs.Sheet.{mostBlocks, sheetSizeOk, blocks, interfaceBlocks, entriesIn, interfacesIn, routesIn, blockOkWith, blockOkAt, validSheet, noLayout, counted, layoutOf}
 use Rattle.sheet.specs.Inside.{Leading}
-use Rattle.sheet.specs.declared.layout.Layout.{Layout}
+use Rattle.sheet.specs.declared.Layout.{Layout}
 use Rattle.sheet.proofs.Valid.{Valid, valid}
-use Rattle.sheet.proofs.Entries.{layout-cases, layout-valid}
+use Rattle.sheet.proofs.Told.{layout-cases, layout-valid}
 use Rattle.sheet.proofs.Leading.{leading-all, leading-valid}
 
 -- a sheet that cannot be valid

@@ -13,11 +13,11 @@ use Rattle.rows.proofs.Laws.{decided, parts}
 use Rattle.wire.specs.Numbers.{byteAt}
 use Rattle.block.specs.Block.{blockSize, kindOf, frameOk}
 use Rattle.format.specs.declared.Format.{Format}
-use Rattle.sheet.specs.Every.{every}
-use Rattle.sheet.specs.Rules.{interfaceKind, routeKind, interfaceRight, routeRight, blockOk}
+use Rattle.sheet_block.specs.Every.{every}
+use Rattle.sheet_block.specs.Rules.{interfaceKind, routeKind, interfaceRight, routeRight, blockOk}
 use Rattle.sheet.specs.Sheet.{blocks, sheetBlock, interfaceBlocksIn, interfaceBlocks, interfacesIn, interfaceBlockOk, routeBlockOk, blockOkWith}
 use Rattle.sheet.specs.Inside.{Leading}
-use Rattle.sheet.proofs.Numbered.{every-one, every-short, every-same}
+use Rattle.sheet_block.proofs.Laws.{every-one, every-short, every-same}
 use Rattle.sheet.proofs.Valid.{Valid}
 
 -- the blocks before k are interface blocks; one more, and the end of them

@@ -11,10 +11,10 @@ use Rattle.rows.proofs.Laws.{cond-cases, both-of}
 use Rattle.block.specs.Block.{blockSize, kindOf, usedIn, switchesOf, frameOk}
 use Rattle.format.specs.declared.Format.{Format}
 use Rattle.interface.specs.Interface.{mostInterfaces}
-use Rattle.sheet.specs.Every.{every}
-use Rattle.sheet.specs.Rules.{interfaceKind, routeKind, switchesOk, interfaceRight, routeRight, entriesOk, blockOk}
+use Rattle.sheet_block.specs.Every.{every}
+use Rattle.sheet_block.specs.Rules.{interfaceKind, routeKind, switchesOk, interfaceRight, routeRight, entriesOk, blockOk}
 use Rattle.sheet.specs.Sheet.{mostBlocks, sheetSizeOk, blocks, sheetBlock, interfaceBlocksIn, interfaceBlocks, interfacesIn, interfaceBlockOk, routeBlockOk, blockOkWith, blockOkAt, validSheet}
-use Rattle.sheet.proofs.Numbered.{every-one}
+use Rattle.sheet_block.proofs.Laws.{every-one}
 use Rattle.wire.proofs.Laws.{Wholes, wholes}
 
 -- no more interface blocks than blocks

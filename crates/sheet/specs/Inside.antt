@@ -1,27 +1,13 @@
 -- Inside: what only the contracts of inner functions cite, here and in the crates above. No entry's promise rests on it, and a reader of the definitions may pass it over.
-use Prim.Native.Nat.{ℕ, _+_, _*_, _-_, _%_, _≤_, _<_, min}
-use mathlib.Core.Bool.{true}
+use Prim.Native.Nat.{ℕ, _≤_, _<_}
 use mathlib.Core.List.{List}
 use mathlib.Core.Path.{_≡_}
-use lib.ListN.{length}
-use Rattle.block.specs.Block.{kindOf, entriesEach}
-use Rattle.format.specs.declared.Format.{Format}
-use Rattle.route_entry.specs.Route.{routeAt}
-use Rattle.route_rules.specs.Rules.{routeOk}
-use Rattle.sheet.specs.Rules.{interfaceKind}
-use Rattle.sheet.specs.Sheet.{sheetBlock, layoutOf}
+use Rattle.block.specs.Block.{kindOf}
+use Rattle.sheet_block.specs.Rules.{interfaceKind}
+use Rattle.sheet.specs.Sheet.{sheetBlock}
 
 -- the first m of the first n blocks are interface blocks, and the next one, if there is one, is not
 pub record Leading (s : List ℕ) (n m : ℕ) : Type 0 where
   pub within : m ≤ n
   pub first : (k : ℕ) → k < m → kindOf (sheetBlock s k) ≡ interfaceKind
   pub next : m < n → kindOf (sheetBlock s m) ≡ interfaceKind → ⊥
-
--- how many of so many routes stand side by side from route k on: to the end of its block, or of the routes
-abbrev pub routesBeside : Format → ℕ → ℕ → ℕ
-routesBeside F routes k = min (routes - k) (entriesEach F.route - k % entriesEach F.route)
-
--- so many routes stand side by side from a place on, and keep their rules
-pub record Beside (F : Format) (s : List ℕ) (at count : ℕ) : Type 0 where
-  pub bytes : (j : ℕ) → j < count → at + F.route * j + F.route ≤ length s
-  pub kept : (j : ℕ) → j < count → routeOk (layoutOf F s .interfaces) (routeAt s (at + F.route * j)) ≡ true

@@ -9,9 +9,9 @@ use Rattle.wire.specs.Parts.{part, wholeParts}
 use Rattle.block.specs.Block.{blockSize, kindOf, usedIn, entriesEach}
 use Rattle.format.specs.declared.Format.{Format}
 use Rattle.interface.specs.Interface.{mostInterfaces}
-use Rattle.sheet.specs.Every.{every}
-use Rattle.sheet.specs.Rules.{interfaceKind, routeKind, interfaceRight, routeRight, blockOk}
-use Rattle.sheet.specs.declared.layout.Layout.{Layout}
+use Rattle.sheet_block.specs.Every.{every}
+use Rattle.sheet_block.specs.Rules.{interfaceKind, routeKind, interfaceRight, routeRight, blockOk}
+use Rattle.sheet.specs.declared.Layout.{Layout}
 
 -- the most blocks of a sheet
 abbrev pub mostBlocks : ℕ

@@ -1,7 +1,7 @@
 // Runs the sheet's check and its readers on the cases of standard input, and writes a line for each.
 // Command 0 writes a label, 1 changes the sheet, 2 checks its first bytes, 3 and 4 read an interface
 // and a route, and 5 looks for an address.
-use sheet::Holding;
+use tables::Holding;
 
 // Room for one block more than a sheet may have.
 const AREA: usize = 8704;
@@ -20,7 +20,7 @@ fn check(s: &[u8]) {
 
 fn prohibited(s: &[u8]) -> bool {
     let l = sheet::check(s);
-    l.valid && sheet::prohibited(s)
+    l.valid && tables::prohibited(s)
 }
 
 fn print_interface(e: interface::Interface) {
@@ -40,7 +40,7 @@ fn print_interface(e: interface::Interface) {
 fn interface(s: &[u8], i: usize) {
     let l = sheet::check(s);
     if i < l.interfaces {
-        print_interface(interface::interface_at(s, sheet::interface_place(format::IPV4, i)));
+        print_interface(interface::interface_at(s, tables::interface_place(format::IPV4, i)));
     }
 }
 
@@ -70,7 +70,7 @@ fn print_counts(e: route_entry::Route) {
 fn route(s: &[u8], k: usize) {
     let l = sheet::check(s);
     if k < l.routes {
-        let e = route_entry::route_at(s, sheet::route_place(format::IPV4, l, k));
+        let e = route_entry::route_at(s, tables::route_place(format::IPV4, l, k));
         print_addresses(e);
         print_counts(e);
     }
@@ -79,7 +79,7 @@ fn route(s: &[u8], k: usize) {
 fn holder(s: &[u8], address: u32) {
     let l = sheet::check(s);
     tape::text(b" ->");
-    match sheet::holder(format::IPV4, s, l.interfaces, address) {
+    match tables::holder(format::IPV4, s, l.interfaces, address) {
         Holding::At(i) => tape::then(i as u64),
         Holding::Nowhere => tape::then(65535),
     }

@@ -10,10 +10,11 @@ use borrow.Author.Tests.{ltb-true, ltb-false}
 use lib.Dec.{ltb}
 use Rattle.rows.proofs.Laws.{decided}
 use Rattle.interface.specs.Interface.{mostInterfaces}
-use Rattle.sheet.specs.Tables.{holderOf}
-use Rattle.sheet.specs.declared.tables.Holding.{Holding}
-use Rattle.sheet.specs.declared.tables.Holding.the-variants.{At, Nowhere}
-use Rattle.sheet.proofs.Laws.{interfaces-few, holder-there, holder-holds, holder-lowest, nobody-holds}
+use Rattle.tables.specs.Tables.{holderOf}
+use Rattle.tables.specs.declared.Holding.{Holding}
+use Rattle.tables.specs.declared.Holding.the-variants.{At, Nowhere}
+use Rattle.sheet.proofs.Laws.{interfaces-few}
+use Rattle.tables.proofs.Laws.{holder-there, holder-holds, holder-lowest, nobody-holds}
 use Rattle.yard.specs.declared.Holder.{Holder}
 use Rattle.yard.specs.declared.Holder.the-variants.{Held, Nobody}
 use Rattle.yard.specs.Yard.{routersIn, sheetAt, heldBy, lowestFrom, holderIn}

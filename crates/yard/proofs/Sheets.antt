@@ -11,13 +11,13 @@ use lib.ListN.{length, take, drop, getD, set, length-set}
 use lib.Seq.{getD-set-same, getD-set-other}
 use Rattle.wire.proofs.Laws.{Wholes, wholes}
 use Rattle.rows.proofs.Laws.{both-of}
-use Rattle.sheet.proofs.Laws.{every-next, every-stops}
-use Rattle.sheet.specs.Every.{every}
+use Rattle.sheet_block.proofs.Laws.{every-next, every-stops}
+use Rattle.sheet_block.specs.Every.{every}
 use Rattle.sheet.specs.Sheet.{layoutOf}
-use Rattle.sheet.specs.Tables.{holderOf}
-use Rattle.sheet.specs.declared.layout.Layout.{Layout}
-use Rattle.sheet.specs.declared.tables.Holding.{Holding}
-use Rattle.sheet.specs.declared.tables.Holding.the-variants.{At, Nowhere}
+use Rattle.tables.specs.Tables.{holderOf}
+use Rattle.sheet.specs.declared.Layout.{Layout}
+use Rattle.tables.specs.declared.Holding.{Holding}
+use Rattle.tables.specs.declared.Holding.the-variants.{At, Nowhere}
 use Rattle.yard.specs.declared.Holder.the-variants.{Held, Nobody}
 use Rattle.yard.specs.Inside.{Counted, YardChecked}
 use Rattle.yard.specs.Yard.{sheetSize, mostRouters, routersIn, sheetAt, validAt, yardSizeOk, yardOk, heldBy, lowestFrom, holderIn}

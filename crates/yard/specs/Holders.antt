@@ -3,7 +3,7 @@ use Prim.Native.Nat.{ℕ, _<_}
 use mathlib.Core.List.{List}
 use mathlib.Core.Path.{_≡_}
 use Rattle.sheet.specs.Sheet.{layoutOf}
-use Rattle.sheet.specs.Tables.{interfaceOf}
+use Rattle.tables.specs.Tables.{interfaceOf}
 use Rattle.yard.specs.Yard.{routersIn, sheetAt}
 use Rattle.format.specs.declared.Format.{Format}
 

@@ -4,11 +4,11 @@ use mathlib.Core.Bool.{Bool, _&&_}
 use mathlib.Core.List.{List}
 use lib.ListN.{length}
 use Rattle.wire.specs.Parts.{part, wholeParts}
-use Rattle.sheet.specs.Every.{every}
+use Rattle.sheet_block.specs.Every.{every}
 use Rattle.sheet.specs.Sheet.{layoutOf}
-use Rattle.sheet.specs.Tables.{holderOf}
-use Rattle.sheet.specs.declared.tables.Holding.{Holding}
-use Rattle.sheet.specs.declared.tables.Holding.the-variants.{At, Nowhere}
+use Rattle.tables.specs.Tables.{holderOf}
+use Rattle.tables.specs.declared.Holding.{Holding}
+use Rattle.tables.specs.declared.Holding.the-variants.{At, Nowhere}
 use Rattle.yard.specs.declared.Holder.{Holder}
 use Rattle.yard.specs.declared.Holder.the-variants.{Held, Nobody}
 use Rattle.format.specs.declared.Format.{Format}

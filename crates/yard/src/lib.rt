@@ -1,12 +1,12 @@
 // A trace walked from router to router: each is a call of the engine, and the walk calls itself for the next.
-use sheet::Holding;
+use tables::Holding;
 ghost use mathlib.Core.Bool.{true};
 ghost use mathlib.Core.Path.{_≡_};
 ghost use Prim.Native.Nat.{_+_, _*_, _/_, _≤_, _<_};
 ghost use lib.Dec.{eqb};
 ghost use lib.ListN.{length};
 ghost use Rattle.wire.specs.Numbers.{byteAt};
-ghost use Rattle.sheet.specs.Every.{every};
+ghost use Rattle.sheet_block.specs.Every.{every};
 ghost use Rattle.format.specs.Sizes.{ipv4, outputSize};
 ghost use Rattle.message.specs.Format.{request};
 ghost use Rattle.message.specs.Blocks.{standardCount};
@@ -109,7 +109,7 @@ fn holder_in(yard: &[u8], counts: &[usize], n: usize, address: u32) -> Holder
     while i < n {
         let a = SHEET_SIZE * i;
         let e = a + SHEET_SIZE;
-        let found = sheet::holder(format::IPV4, &yard[a..e], counts[i], address);
+        let found = tables::holder(format::IPV4, &yard[a..e], counts[i], address);
         if let Holding::At(k) = found {
             return Holder::Held(i, k);
         }

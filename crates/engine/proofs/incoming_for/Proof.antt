@@ -1,5 +1,6 @@
 -- `incoming_for`: by the route chosen, as the definition goes.
-use Rattle.sheet.proofs.Laws.{interface-few, place-within, interface-told}
+use Rattle.sheet.proofs.Laws.{interface-few}
+use Rattle.tables.proofs.Laws.{place-within, interface-told}
 use Rattle.engine.proofs.Rows.{incoming-unknown, incoming-there, incoming-known, incoming-none}
 use borrow.Author.Needs.{needs}
 use Rattle.engine.proofs.incoming_for.Statement.{statement}

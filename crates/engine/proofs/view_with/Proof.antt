@@ -1,5 +1,6 @@
 -- `view_with`: each field by its own function.
-use Rattle.sheet.proofs.Laws.{interface-few, place-within, interface-told}
+use Rattle.sheet.proofs.Laws.{interface-few}
+use Rattle.tables.proofs.Laws.{place-within, interface-told}
 use Rattle.engine.proofs.Rows.{switches-here, view-made}
 use borrow.Author.Needs.{needs}
 use Rattle.engine.proofs.view_with.Statement.{statement}

@@ -2,7 +2,7 @@
 use Prim.Native.Nat.{_≤_, _-_}
 use mathlib.Core.Path.{_≡_, refl}
 use native.Mathlib.Omega.{arith}
-use Rattle.sheet.proofs.Laws.{route-placed, routes-beside, beside-some}
+use Rattle.tables.proofs.Laws.{route-placed, routes-beside, beside-some}
 use Rattle.route.specs.Inside.{bestWith, bestOf}
 use Rattle.route.proofs.Turns.{block-more, best-all}
 use Rattle.route.proofs.best_of.Statement.{statement}

@@ -1,5 +1,6 @@
 -- `reaches`: each way out is the first test that holds.
-use Rattle.sheet.proofs.Laws.{interface-few, place-within, interface-told}
+use Rattle.sheet.proofs.Laws.{interface-few}
+use Rattle.tables.proofs.Laws.{place-within, interface-told}
 use Rattle.route.proofs.Reached.{bit-clear, bit-set, interface-short-enough}
 use borrow.Author.Needs.{needs}
 use Rattle.route.proofs.reaches.Statement.{statement}

@@ -3,7 +3,7 @@ use Prim.Native.Nat.{_-_, _≤_}
 use mathlib.Core.Bool.{false}
 use mathlib.Core.Path.{_≡_, refl}
 use native.Mathlib.Omega.{arith}
-use Rattle.sheet.specs.Tables.{interfaceOf}
+use Rattle.tables.specs.Tables.{interfaceOf}
 use Rattle.route.specs.LastHop.{someReaches}
 use Rattle.route.proofs.Reached.{bit-there, interface-counted, map-over, reached, not-reached, none-reached}
 use Rattle.route.proofs.some_reaches.Statement.{statement}

@@ -1,6 +1,7 @@
 -- `sheet_cases::interface` is safe and ends. The number asked for is below the one that the check gave.
 use Rattle.format.specs.Sizes.{ipv4, ipv4-sound}
-use Rattle.sheet.proofs.Laws.{interface-few, place-within}
+use Rattle.sheet.proofs.Laws.{interface-few}
+use Rattle.tables.proofs.Laws.{place-within}
 use borrow.Author.Needs.{needs}
 use Rattle.sheet_cases.proofs.interface.Statement.{statement}
 use Rattle.sheet_cases.proofs.interface.Tie as tie

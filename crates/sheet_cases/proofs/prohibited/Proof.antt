@@ -1,6 +1,6 @@
 -- `sheet_cases::prohibited` is safe and ends. The sheet that is read is one that the check found valid.
 use Rattle.format.specs.Sizes.{ipv4}
-use Rattle.sheet.proofs.Laws.{valid-long}
+use Rattle.tables.proofs.Laws.{valid-long}
 use borrow.Author.Needs.{needs}
 use Rattle.sheet_cases.proofs.prohibited.Statement.{statement}
 use Rattle.sheet_cases.proofs.prohibited.Tie as tie

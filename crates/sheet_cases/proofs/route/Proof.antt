@@ -1,6 +1,6 @@
 -- `sheet_cases::route` is safe and ends. The number asked for is below the one that the check gave.
 use Rattle.format.specs.Sizes.{ipv4-sound}
-use Rattle.sheet.proofs.Laws.{route-placed, route-within}
+use Rattle.tables.proofs.Laws.{route-placed, route-within}
 use borrow.Author.Needs.{needs}
 use Rattle.sheet_cases.proofs.route.Statement.{statement}
 use Rattle.sheet_cases.proofs.route.Tie as tie

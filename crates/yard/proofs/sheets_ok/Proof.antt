@@ -6,7 +6,7 @@ use mathlib.Core.Bool.{true}
 use mathlib.Core.Path.{_≡_, refl}
 use native.Mathlib.Omega.{arith}
 use lib.ListN.{length, length-set}
-use Rattle.sheet.specs.Every.{every}
+use Rattle.sheet_block.specs.Every.{every}
 use Rattle.yard.specs.Yard.{validAt}
 use Rattle.yard.specs.Inside.{Counted}
 use Rattle.yard.proofs.Sheets.{counted-none, checked-more, checked-wrong, counted-more, checked-all, counted-all}
