@@ -11,11 +11,11 @@ use Rattle.clock.specs.declared.Clock.{Clock}
 use Rattle.clock.specs.declared.Units.{Units}
 use Rattle.clock.specs.Clock.{startOf, advanceOf, arrivalOf}
 use Rattle.clock.specs.Unix.{unixOf}
-use Rattle.response.specs.declared.Block.{Block}
-use Rattle.response.specs.Bytes.{blockBytes}
+use Rattle.written.specs.declared.Block.{Block}
+use Rattle.written.specs.Bytes.{blockBytes}
 use Rattle.tables.specs.Tables.{interfaceOf}
 use Rattle.drops.proofs.Laws.{taken}
-use Rattle.response.proofs.Laws.{ipv4-writes}
+use Rattle.written.proofs.Laws.{ipv4-writes}
 use Rattle.engine.proofs.Laws.{sent-on-fits}
 use Rattle.engine.specs.Answer.{sentOn, sentHome, sentBy}
 use Rattle.engine.specs.Step.{stepOf}

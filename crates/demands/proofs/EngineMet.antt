@@ -14,10 +14,10 @@ use Rattle.route_entry.specs.Route.{unknown}
 use Rattle.route_entry.specs.declared.Route.{Route}
 use Rattle.route.specs.declared.Chosen.{Chosen}
 use Rattle.route.specs.declared.Chosen.the-variants.{Found, Nothing}
-use Rattle.response.specs.declared.Block.{Block}
-use Rattle.response.specs.Code.{codeNoSpace, codes}
+use Rattle.written.specs.declared.Block.{Block}
+use Rattle.forwarding.specs.Code.{codeNoSpace, codes}
 use Rattle.response.specs.Fill.{blockOf, endsTrace}
-use Rattle.response.specs.Bytes.{blockBytes}
+use Rattle.written.specs.Bytes.{blockBytes}
 use Rattle.message.specs.Format.{request, reply, standardSize, codeOffset}
 use Rattle.message.specs.Blocks.{lastStandard}
 use Rattle.message.specs.Room.{isFull, Full, HasRoom}

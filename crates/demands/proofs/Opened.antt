@@ -18,9 +18,9 @@ use Rattle.sheet.specs.Sheet.{interfaceBlocksIn, interfaceBlocks, entriesIn, in
 use Rattle.tables.specs.Tables.{interfaceOf, routeOf, interfacesOf, routesOf, prohibitedOf, holderFrom, holderOf}
 use Rattle.route.specs.Choice.{servesBoth, servesGroup, servesSource, longer, longestBy, orElse, whichRoute}
 use Rattle.route.specs.LastHop.{reaches, someReaches, properLastHop}
-use Rattle.response.specs.Code.{codes}
+use Rattle.forwarding.specs.Code.{codes}
 use Rattle.response.specs.Fill.{filledOf, blockOf, endsTrace}
-use Rattle.response.specs.Bytes.{blockBytes, noteBytes}
+use Rattle.written.specs.Bytes.{blockBytes, noteBytes}
 use Rattle.message.specs.Header.{headerOf}
 use Rattle.message.specs.Blocks.{fitsIn, begins, blocksBy, blocksFrom, blocksOf, totalSize, standardPlaces, lastOr, standards, blocksEnd, standardFirst, fillsMessage, rightForm, standardBlocks}
 use Rattle.message.specs.Check.{headerRows, messageRows}

@@ -15,10 +15,10 @@ use Rattle.rows.proofs.Laws.{decided, none-is}
 use Rattle.wire.specs.Numbers.{be, bytes}
 use Rattle.wire.proofs.Laws.{be-bytes}
 use Rattle.recent.specs.Entries.{empty}
-use Rattle.response.specs.declared.Block.{Block}
-use Rattle.response.specs.Code.{codeNoSpace}
+use Rattle.written.specs.declared.Block.{Block}
+use Rattle.forwarding.specs.Code.{codeNoSpace}
 use Rattle.response.specs.Fill.{blockOf}
-use Rattle.response.specs.Bytes.{blockBytes}
+use Rattle.written.specs.Bytes.{blockBytes}
 use Rattle.message.specs.Format.{most, reply, standardSize, noteSize}
 use Rattle.message.specs.Header.{headerOf, retyped}
 use Rattle.message.specs.Blocks.{standardBlocks, rightForm}
@@ -44,7 +44,7 @@ use Rattle.demands.specs.Read.{ReadTruth, BlockFits, Says}
 use Rattle.demands.proofs.EngineMet.{product-block}
 use Rattle.demands.proofs.WalkMet.{blank-length, mapped-at, as-sent, walk-meets}
 use Rattle.format.specs.Sizes.{ipv4, ipv4-sound, leastRoom, outputSize}
-use Rattle.response.proofs.Laws.{ipv4-writes}
+use Rattle.written.proofs.Laws.{ipv4-writes}
 use Rattle.engine.specs.Room.{roomFor}
 
 -- a Reply by an accepted message's header

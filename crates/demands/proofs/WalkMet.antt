@@ -15,9 +15,9 @@ use Rattle.rows.proofs.Laws.{decided, first-or-none, first-is, noted-is}
 use Rattle.wire.specs.Numbers.{be, be16, be32}
 use Rattle.address.specs.Addresses.{multicast}
 use Rattle.wire.proofs.Laws.{splice-front}
-use Rattle.response.specs.declared.Block.{Block}
-use Rattle.response.specs.Code.{codeNoSpace}
-use Rattle.response.specs.Bytes.{blockBytes}
+use Rattle.written.specs.declared.Block.{Block}
+use Rattle.forwarding.specs.Code.{codeNoSpace}
+use Rattle.written.specs.Bytes.{blockBytes}
 use Rattle.message.specs.Format.{most, codeOffset, noteSize}
 use Rattle.message.specs.Blocks.{lastCoded}
 use Rattle.drops.specs.Arrival.{arrival}
@@ -34,7 +34,7 @@ use Rattle.demands.specs.Engine.{Engine, rows, room, BlockOf, EngineMeet
 use Rattle.demands.specs.Walk.{Told, Walker, told, blank, callAt, sent, to, did, Run, stays, group, nobody, goes, Truth, Demand3, WalkMeets}
 use Rattle.demands.proofs.EngineMet.{block-is, room-is, engine-meets, no-other-engine}
 use Rattle.format.specs.Sizes.{ipv4, ipv4-sound, outputSize}
-use Rattle.response.proofs.Laws.{ipv4-writes}
+use Rattle.written.proofs.Laws.{ipv4-writes}
 
 -- the product's walk, by its promise
 abbrev pub walkTold : Walker

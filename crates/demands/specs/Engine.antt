@@ -16,13 +16,13 @@ use Rattle.route_entry.specs.declared.Route.{Route}
 use Rattle.tables.specs.Tables.{interfaceOf, prohibitedOf}
 use Rattle.route.specs.declared.Chosen.{Chosen}
 use Rattle.route.specs.declared.Chosen.the-variants.{Found, Nothing}
-use Rattle.response.specs.declared.Block.{Block}
-use Rattle.response.specs.declared.Note.{Note}
-use Rattle.response.specs.declared.View.{View}
-use Rattle.response.specs.View.{addressOf}
-use Rattle.response.specs.Code.{codeNoSpace, codes}
+use Rattle.written.specs.declared.Block.{Block}
+use Rattle.written.specs.declared.Note.{Note}
+use Rattle.forwarding.specs.declared.View.{View}
+use Rattle.forwarding.specs.View.{addressOf}
+use Rattle.forwarding.specs.Code.{codeNoSpace, codes}
 use Rattle.response.specs.Fill.{upstreamOf, fillFor, endsFor}
-use Rattle.response.specs.Bytes.{blockBytes, noteBytes}
+use Rattle.written.specs.Bytes.{blockBytes, noteBytes}
 use Rattle.message.specs.declared.Header.{Header}
 use Rattle.message.specs.Format.{request, reply, codeOffset}
 use Rattle.message.specs.Header.{headerOf}

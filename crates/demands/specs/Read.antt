@@ -5,9 +5,9 @@ use mathlib.Core.Bool.{cond}
 use mathlib.Core.List.{List}
 use mathlib.Core.Path.{_≡_}
 use lib.ListN.{length, getD, set}
-use Rattle.response.specs.declared.Block.{Block}
-use Rattle.response.specs.Code.{codeNoSpace}
-use Rattle.response.specs.Bytes.{blockBytes}
+use Rattle.written.specs.declared.Block.{Block}
+use Rattle.forwarding.specs.Code.{codeNoSpace}
+use Rattle.written.specs.Bytes.{blockBytes}
 use Rattle.message.specs.Format.{codeOffset}
 use Rattle.message.specs.Room.{Full, HasRoom}
 use Rattle.reply.specs.declared.Standard.{Standard}

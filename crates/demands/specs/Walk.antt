@@ -11,9 +11,9 @@ use Rattle.wire.specs.Numbers.{be16, be32}
 use Rattle.wire.specs.Parts.{splice}
 use Rattle.address.specs.Addresses.{multicast}
 use Rattle.recent.specs.Entries.{empty}
-use Rattle.response.specs.declared.Block.{Block}
-use Rattle.response.specs.Code.{codeNoSpace}
-use Rattle.response.specs.Bytes.{blockBytes}
+use Rattle.written.specs.declared.Block.{Block}
+use Rattle.forwarding.specs.Code.{codeNoSpace}
+use Rattle.written.specs.Bytes.{blockBytes}
 use Rattle.message.specs.Format.{most, codeOffset, noteSize}
 use Rattle.message.specs.Header.{headerOf}
 use Rattle.message.specs.Blocks.{standardCount, standardBlocks}

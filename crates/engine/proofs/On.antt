@@ -24,10 +24,10 @@ use Rattle.route.specs.declared.Chosen.{Chosen}
 use Rattle.route.specs.declared.Chosen.the-variants.{Found, Nothing}
 use Rattle.route.specs.Choice.{whichRoute}
 use Rattle.route.proofs.Laws.{chosen-kept}
-use Rattle.response.specs.declared.View.{View}
-use Rattle.response.specs.declared.Incoming.{Incoming}
+use Rattle.forwarding.specs.declared.View.{View}
+use Rattle.forwarding.specs.declared.Incoming.{Incoming}
 use Rattle.response.specs.Fill.{allRouters, upstreamOf, blockOf, endsTrace}
-use Rattle.response.specs.Bytes.{blockBytes}
+use Rattle.written.specs.Bytes.{blockBytes}
 use Rattle.message.specs.Format.{query, request, noteSize}
 use Rattle.message.specs.Header.{headerOf, retyped}
 use Rattle.message.specs.Blocks.{standardCount}
@@ -42,7 +42,7 @@ use Rattle.drops.proofs.Laws.{Taken, not-dropped}
 use Rattle.engine.proofs.Sent.{sent-cases, longer-as, longer-length, room-most}
 use Rattle.format.specs.declared.Format.{Format}
 use Rattle.format.specs.Sizes.{Sound, outputSize, ipAndUdp}
-use Rattle.response.specs.Inside.{Writes}
+use Rattle.written.specs.Inside.{Writes}
 use Rattle.engine.specs.Room.{roomWith, roomFor}
 
 -- a Request sent on, from what was received

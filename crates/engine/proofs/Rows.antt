@@ -18,14 +18,14 @@ use Rattle.sheet.proofs.Laws.{interface-valid, valid-told}
 use Rattle.tables.proofs.Laws.{valid-long}
 use Rattle.route.specs.declared.Chosen.{Chosen}
 use Rattle.route.specs.declared.Chosen.the-variants.{Found, Nothing}
-use Rattle.response.specs.declared.Incoming.{Incoming}
-use Rattle.response.specs.declared.Incoming.the-variants.{Known, Unknown}
-use Rattle.response.specs.declared.View.{View}
-use Rattle.response.specs.declared.Note.{Note}
-use Rattle.response.specs.declared.Block.{Block}
-use Rattle.response.specs.View.{addressOf}
+use Rattle.forwarding.specs.declared.Incoming.{Incoming}
+use Rattle.forwarding.specs.declared.Incoming.the-variants.{Known, Unknown}
+use Rattle.forwarding.specs.declared.View.{View}
+use Rattle.written.specs.declared.Note.{Note}
+use Rattle.written.specs.declared.Block.{Block}
+use Rattle.forwarding.specs.View.{addressOf}
 use Rattle.response.specs.Fill.{upstreamOf, blockOf, endsTrace}
-use Rattle.response.specs.Bytes.{blockBytes, noteBytes}
+use Rattle.written.specs.Bytes.{blockBytes, noteBytes}
 use Rattle.message.specs.declared.Header.{Header}
 use Rattle.message.specs.Header.{headerOf}
 use Rattle.message.specs.Blocks.{lastStandard}
@@ -33,11 +33,11 @@ use Rattle.engine.specs.View.{incomingFor, viewWith}
 use Rattle.engine.specs.Answer.{sentOn, sentHome, mtracePort, noteHome, noteOn, goesHome, goesOn, fullMessage, longerMessage, longerAnswer}
 use Rattle.engine.specs.Inside.{kindSent, RouteThere, Written, WithRoom}
 use Rattle.message.specs.Format.{query, request, reply}
-use Rattle.response.specs.Code.{codeNoSpace}
+use Rattle.forwarding.specs.Code.{codeNoSpace}
 use Rattle.message.specs.Room.{hopsUsed}
 use Rattle.engine.proofs.Sent.{longer-length}
 use Rattle.format.specs.declared.Format.{Format}
-use Rattle.response.specs.Inside.{Writes}
+use Rattle.written.specs.Inside.{Writes}
 use Rattle.engine.specs.Room.{linkOf}
 
 -- the link whose room counts, where the incoming interface is known

@@ -13,12 +13,13 @@ use Rattle.wire.specs.Numbers.{byteAt}
 use Rattle.rows.proofs.Laws.{cond-cases, none-is, first-is}
 use Rattle.tables.specs.Tables.{interfaceOf}
 use Rattle.route.specs.declared.Chosen.the-variants.{Nothing}
-use Rattle.response.specs.declared.View.{View}
-use Rattle.response.specs.declared.Block.{Block}
-use Rattle.response.specs.Code.{wrongLastHop, codeOf, codeNoSpace, codeWrongLastHop}
+use Rattle.forwarding.specs.declared.View.{View}
+use Rattle.written.specs.declared.Block.{Block}
+use Rattle.forwarding.specs.Code.{wrongLastHop, codeOf, codeNoSpace, codeWrongLastHop}
 use Rattle.response.specs.Fill.{blockOf, endsTrace}
-use Rattle.response.specs.Bytes.{blockBytes}
-use Rattle.response.proofs.Laws.{no-route-ends, hidden-no-route}
+use Rattle.written.specs.Bytes.{blockBytes}
+use Rattle.response.proofs.Laws.{no-route-ends}
+use Rattle.forwarding.proofs.Laws.{hidden-no-route}
 use Rattle.message.specs.Format.{request, reply}
 use Rattle.message.specs.Header.{headerOf}
 use Rattle.message.specs.Blocks.{lastStandard}
@@ -31,7 +32,7 @@ use Rattle.engine.specs.View.{viewWith, viewOf}
 use Rattle.engine.specs.Answer.{Sent, sentOn, sentHome, goesHome, goesOn, fullMessage, longerMessage, longerAnswer, sentBy}
 use Rattle.engine.specs.Step.{outcome, answeredBy, stepOf}
 use Rattle.format.specs.declared.Format.{Format}
-use Rattle.response.specs.Inside.{Writes}
+use Rattle.written.specs.Inside.{Writes}
 use Rattle.engine.specs.Room.{roomWith, roomFor}
 
 -- a message with a type written and a block behind it, as the laws of messages have it: the block is appended, then the type written

@@ -19,11 +19,11 @@ use Rattle.tables.proofs.Laws.{interface-keeps}
 use Rattle.route.specs.declared.Chosen.{Chosen}
 use Rattle.route.specs.declared.Chosen.the-variants.{Found, Nothing}
 use Rattle.route.proofs.Laws.{chosen-kept}
-use Rattle.response.specs.declared.Incoming.{Incoming}
-use Rattle.response.specs.declared.Incoming.the-variants.{Known, Unknown}
+use Rattle.forwarding.specs.declared.Incoming.{Incoming}
+use Rattle.forwarding.specs.declared.Incoming.the-variants.{Known, Unknown}
 use Rattle.route_entry.specs.Route.{unknown}
 use Rattle.rows.proofs.Laws.{cond-cases}
-use Rattle.response.specs.declared.View.{View}
+use Rattle.forwarding.specs.declared.View.{View}
 use Rattle.message.specs.declared.Header.{Header}
 use Rattle.message.specs.Header.{headerOf}
 use Rattle.message.specs.Blocks.{standardCount, lastStandard}
@@ -38,7 +38,7 @@ use Rattle.engine.specs.Answer.{goesHome, fullMessage, longerAnswer, sen
 use Rattle.engine.specs.Step.{outcome, recentAfter, StepMeets}
 use Rattle.engine.specs.Inside.{RouteThere, Written, WithRoom, WithoutRoom, Ready, answered}
 use Rattle.message.specs.Room.{isFull, Full, HasRoom}
-use Rattle.response.specs.Code.{codes}
+use Rattle.forwarding.specs.Code.{codes}
 use Rattle.response.specs.Fill.{blockOf, endsTrace}
 use Rattle.response.specs.Inside.{RouteFits}
 use Rattle.engine.proofs.Sent.{drop-changes-nothing, taken-is-sent}

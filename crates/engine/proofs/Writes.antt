@@ -9,12 +9,12 @@ use borrow.Author.Tests.{eq-eqb, ne-eqb}
 use Rattle.wire.specs.Parts.{splice}
 use Rattle.wire.proofs.Laws.{splice-front, splice-join}
 use Rattle.recent.specs.Entries.{enteredIn}
-use Rattle.response.specs.declared.Block.{Block}
-use Rattle.response.specs.declared.Note.{Note}
-use Rattle.response.specs.Bytes.{blockBytes, noteBytes}
+use Rattle.written.specs.declared.Block.{Block}
+use Rattle.written.specs.declared.Note.{Note}
+use Rattle.written.specs.Bytes.{blockBytes, noteBytes}
 use Rattle.message.specs.declared.Header.{Header}
 use Rattle.message.specs.Format.{query, reply}
-use Rattle.response.specs.Code.{codeNoSpace}
+use Rattle.forwarding.specs.Code.{codeNoSpace}
 use Rattle.engine.specs.Answer.{longerMessage}
 use Rattle.engine.specs.Step.{recentAfter}
 use Rattle.format.specs.declared.Format.{Format}

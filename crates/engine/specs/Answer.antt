@@ -6,14 +6,14 @@ use lib.ListN.{length, set}
 use Rattle.tables.specs.Tables.{interfaceOf}
 use Rattle.route.specs.declared.Chosen.{Chosen}
 use Rattle.route.specs.declared.Chosen.the-variants.{Found, Nothing}
-use Rattle.response.specs.declared.Incoming.{Incoming}
-use Rattle.response.specs.declared.View.{View}
-use Rattle.response.specs.declared.Block.{Block}
-use Rattle.response.specs.declared.Note.{Note}
-use Rattle.response.specs.View.{addressOf}
-use Rattle.response.specs.Code.{codeNoSpace}
+use Rattle.forwarding.specs.declared.Incoming.{Incoming}
+use Rattle.forwarding.specs.declared.View.{View}
+use Rattle.written.specs.declared.Block.{Block}
+use Rattle.written.specs.declared.Note.{Note}
+use Rattle.forwarding.specs.View.{addressOf}
+use Rattle.forwarding.specs.Code.{codeNoSpace}
 use Rattle.response.specs.Fill.{upstreamOf, blockOf, endsTrace}
-use Rattle.response.specs.Bytes.{blockBytes}
+use Rattle.written.specs.Bytes.{blockBytes}
 use Rattle.message.specs.declared.Header.{Header}
 use Rattle.message.specs.Format.{request, reply}
 use Rattle.message.specs.Header.{headerOf}

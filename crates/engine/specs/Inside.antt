@@ -8,7 +8,7 @@ use Rattle.recent.specs.Inside.{Formed}
 use Rattle.interface.specs.Interface.{mostInterfaces}
 use Rattle.sheet.specs.Sheet.{layoutOf}
 use Rattle.tables.specs.Tables.{interfaceOf}
-use Rattle.response.specs.declared.View.{View}
+use Rattle.forwarding.specs.declared.View.{View}
 use Rattle.response.specs.Inside.{RouteFits}
 use Rattle.message.specs.declared.Header.{Header}
 use Rattle.message.specs.Format.{request, reply, noteSize}
@@ -22,7 +22,7 @@ use Rattle.route_entry.specs.Route.{unknown}
 use Rattle.route.specs.declared.Chosen.{Chosen}
 use Rattle.route.specs.declared.Chosen.the-variants.{Found, Nothing}
 use Rattle.wire.specs.Parts.{splice}
-use Rattle.response.specs.Bytes.{noteBytes}
+use Rattle.written.specs.Bytes.{noteBytes}
 use Rattle.engine.specs.View.{viewWith}
 use Rattle.engine.specs.Room.{roomWith}
 use Rattle.engine.specs.Answer.{Sent, goesHome, fullMessage, longerAnswer}

@@ -6,8 +6,8 @@ use Rattle.format.specs.Sizes.{roomOf}
 use Rattle.interface.specs.declared.Interface.{Interface}
 use Rattle.tables.specs.Tables.{interfaceOf}
 use Rattle.route.specs.declared.Chosen.{Chosen}
-use Rattle.response.specs.declared.Incoming.{Incoming}
-use Rattle.response.specs.declared.Incoming.the-variants.{Known, Unknown}
+use Rattle.forwarding.specs.declared.Incoming.{Incoming}
+use Rattle.forwarding.specs.declared.Incoming.the-variants.{Known, Unknown}
 use Rattle.message.specs.Header.{headerOf}
 use Rattle.drops.specs.Arrival.{Arrival, routeFor}
 use Rattle.engine.specs.View.{incomingFor}

@@ -7,7 +7,7 @@ use lib.ListN.{length}
 use Rattle.rows.specs.Rows.{byFirst}
 use Rattle.wire.specs.Parts.{splice}
 use Rattle.recent.specs.Entries.{enteredIn}
-use Rattle.response.specs.Bytes.{noteBytes}
+use Rattle.written.specs.Bytes.{noteBytes}
 use Rattle.message.specs.declared.Header.{Header}
 use Rattle.message.specs.Header.{headerOf}
 use Rattle.drops.specs.Arrival.{Arrival, isQuery}

@@ -7,9 +7,9 @@ use Rattle.route_entry.specs.Route.{unknown}
 use Rattle.tables.specs.Tables.{interfaceOf, prohibitedOf}
 use Rattle.route.specs.declared.Chosen.{Chosen}
 use Rattle.route.specs.declared.Chosen.the-variants.{Found, Nothing}
-use Rattle.response.specs.declared.View.{View}
-use Rattle.response.specs.declared.Incoming.{Incoming}
-use Rattle.response.specs.declared.Incoming.the-variants.{Known, Unknown}
+use Rattle.forwarding.specs.declared.View.{View}
+use Rattle.forwarding.specs.declared.Incoming.{Incoming}
+use Rattle.forwarding.specs.declared.Incoming.the-variants.{Known, Unknown}
 use Rattle.message.specs.declared.Header.{Header}
 use Rattle.message.specs.Header.{headerOf}
 use Rattle.drops.specs.Arrival.{Arrival, isQuery, routeFor, lastHopFor}

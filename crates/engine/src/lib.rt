@@ -1,14 +1,14 @@
 // One router's step: what arrives is dropped by its number, or answered by the Request sent on or the Reply sent home.
 use drops::Verdict;
 use format::Format;
+use forwarding::Incoming;
+use forwarding::View;
 use interface::Interface;
 use message::Header;
-use response::Block;
-use response::Incoming;
-use response::Note;
-use response::View;
 use route::Chosen;
 use sheet::Layout;
+use written::Block;
+use written::Note;
 ghost use mathlib.Core.Path.{_≡_};
 ghost use Prim.Native.Nat.{_+_, _≤_, _<_};
 ghost use lib.ListN.{length, set};
@@ -16,10 +16,10 @@ ghost use Rattle.wire.specs.Parts.{splice};
 ghost use Rattle.format.specs.Sizes.{Sound, ipv4, outputSize};
 ghost use Rattle.recent.specs.Inside.{Formed};
 ghost use Rattle.sheet.specs.Sheet.{layoutOf};
-ghost use Rattle.response.specs.Code.{codeNoSpace};
-ghost use Rattle.response.specs.Inside.{Writes};
+ghost use Rattle.forwarding.specs.Code.{codeNoSpace};
+ghost use Rattle.written.specs.Inside.{Writes};
 ghost use Rattle.message.specs.Format.{reply, noteSize};
-ghost use Rattle.response.specs.Bytes.{blockBytes, noteBytes};
+ghost use Rattle.written.specs.Bytes.{blockBytes, noteBytes};
 ghost use Rattle.rows.specs.Rows.{firstOf};
 ghost use Rattle.drops.specs.Arrival.{arrival};
 ghost use Rattle.drops.specs.Inside.{lentRows};
@@ -77,7 +77,7 @@ fn write_full(f: Format, message: &[u8], last: usize, output: &mut [u8])
 {
     wire::copy_to(output, 0, message);
     output[0] = message::REPLY;
-    output[last + f.code] = response::CODE_NO_SPACE;
+    output[last + f.code] = forwarding::CODE_NO_SPACE;
 }
 
 // The message with its type, and a block behind it.
@@ -85,7 +85,7 @@ fn write_longer(message: &[u8], kind: u8, block: Block, output: &mut [u8])
     requires { ⌜ (0 < length (now message)) × (length (now message) + length (blockBytes block) ≤ length (now output)) ⌝ }
     ensures { λ _. ⌜ now (output .exit) ≡ splice (now (output .entry)) 0 (longerMessage kind (now (message .entry)) block) ⌝ }
 {
-    let bytes = response::block_bytes(block);
+    let bytes = written::block_bytes(block);
     wire::copy_to(output, 0, message);
     output[0] = kind;
     wire::copy_to(output, message.len(), &bytes);
@@ -96,7 +96,7 @@ fn write_note(n: Note, note: &mut [u8])
     requires { ⌜ noteSize ≤ length (now note) ⌝ }
     ensures { λ _. ⌜ now (note .exit) ≡ splice (now (note .entry)) 0 (noteBytes n) ⌝ }
 {
-    let bytes = response::note_bytes(n);
+    let bytes = written::note_bytes(n);
     wire::copy_to(note, 0, &bytes);
 }
 

@@ -5,8 +5,6 @@ use Rattle.response.proofs.address_of.Reads as address-of
 use Rattle.response.proofs.upstream.Reads as upstream
 use Rattle.response.proofs.block_of.Reads as block-of
 use Rattle.response.proofs.ends_trace.Reads as ends-trace
-use Rattle.response.proofs.block_bytes.Reads as block-bytes
-use Rattle.response.proofs.note_bytes.Reads as note-bytes
 
 pub address-of-determined : (κs : _) (a : _) (x y : _) (e f : _) → address-of.Post κs a x e → address-of.Post κs a y f → x ≡ y
 address-of-determined κs a x y e f = both-are
@@ -19,9 +17,3 @@ block-of-determined κs a x y e f = both-are
 
 pub ends-trace-determined : (κs : _) (a : _) (x y : _) (e f : _) → ends-trace.Post κs a x e → ends-trace.Post κs a y f → x ≡ y
 ends-trace-determined κs a x y e f = both-are
-
-pub block-bytes-determined : (κs : _) (a : _) (x y : _) (e f : _) → block-bytes.Post κs a x e → block-bytes.Post κs a y f → x ≡ y
-block-bytes-determined κs a x y e f = both-are
-
-pub note-bytes-determined : (κs : _) (a : _) (x y : _) (e f : _) → note-bytes.Post κs a x e → note-bytes.Post κs a y f → x ≡ y
-note-bytes-determined κs a x y e f = both-are

@@ -1,7 +1,7 @@
 -- A law for each way out of a function: what its tests showed and what its callees answered, and the definition's answer.
 use Prim.Native.Nat.{ℕ, _+_, _≤_, _<_}
 use mathlib.Core.Bool.{Bool, true, false, _||_}
-use mathlib.Core.Path.{_≡_, refl, sym, ap, subst, _∙_}
+use mathlib.Core.Path.{_≡_, refl, sym, subst, _∙_}
 use native.Mathlib.Omega.{arith}
 use lib.Dec.{eqb}
 use Rattle.rows.proofs.Laws.{cond-cases}
@@ -10,23 +10,12 @@ use Rattle.route_entry.specs.Route.{isRp, groupOnly}
 use Rattle.route_entry.specs.declared.Route.{Route}
 use Rattle.route.specs.declared.Chosen.{Chosen}
 use Rattle.route.specs.declared.Chosen.the-variants.{Found, Nothing}
-use Rattle.response.specs.declared.View.{View}
-use Rattle.response.specs.declared.Filled.{Filled}
-use Rattle.rows.specs.Rows.{byFirst, firstOf}
-use Rattle.response.specs.Code.{codeWrongLastHop, codeNoRoute, wrongLastHop, scoped, codesFor, codes, codeOf}
-use Rattle.response.specs.Inside.{lateCodes, RouteFits}
+use Rattle.forwarding.specs.declared.View.{View}
+use Rattle.written.specs.declared.Filled.{Filled}
+use Rattle.response.specs.Inside.{RouteFits}
 use Rattle.response.specs.Fill.{noSourceMask, maskOf, sOf, sBit, sAndMask, filledOf, unfilled, fillFor, endsTrace}
 
--- the codes from SCOPED on, by what `in_scope` answered
-pub late-told : (v : View) (r : Route) (inScope : Bool) (code : ℕ) → inScope ≡ scoped v → code ≡ firstOf (lateCodes inScope r (v .number))
-    → code ≡ firstOf (lateCodes (scoped v) r (v .number))
-late-told v r inScope code e h = rw (← e) h
-
 module _ (v : View) (r : Route) (found : v .chosen ≡ Found r) where
-  pub code-found : (code : ℕ) → code ≡ firstOf (codesFor v (Found r)) → code ≡ codeOf v
-  unfolding codes
-  code-found code e = e ∙ ap (λ (w : Chosen). firstOf (codesFor v w)) (sym found)
-
   pub ends-found : (rp : Bool) (blocks hops : ℕ) → rp ≡ isRp r → (v .prohibited || rp || eqb (r .upstream) 0 || eqb blocks hops) ≡ endsTrace v blocks hops
   unfolding endsTrace
   ends-found rp blocks hops e = rw (e, found)
@@ -38,15 +27,6 @@ module _ (v : View) (r : Route) (found : v .chosen ≡ Found r) where
   fits-found fits = rw found at fits
 
 module _ (v : View) (none : v .chosen ≡ Nothing) where
-  -- no route: WRONG_LAST_HOP, or else NO_ROUTE
-  pub code-none-wrong : wrongLastHop v ≡ true → codeWrongLastHop ≡ codeOf v
-  unfolding codes byFirst
-  code-none-wrong e = rw (none, e)
-
-  pub code-none : wrongLastHop v ≡ false → codeNoRoute ≡ codeOf v
-  unfolding codes byFirst
-  code-none e = rw (none, e)
-
   pub ends-none : (blocks hops : ℕ) → true ≡ endsTrace v blocks hops
   unfolding endsTrace
   ends-none blocks hops = rw none

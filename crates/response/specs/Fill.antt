@@ -8,12 +8,12 @@ use Rattle.route_entry.specs.Route.{sourceAndGroup, groupOnly, sourceOnly, isRp
 use Rattle.route_entry.specs.declared.Route.{Route}
 use Rattle.route.specs.declared.Chosen.{Chosen}
 use Rattle.route.specs.declared.Chosen.the-variants.{Found, Nothing}
-use Rattle.response.specs.declared.View.{View}
-use Rattle.response.specs.declared.Incoming.{Incoming}
-use Rattle.response.specs.declared.Filled.{Filled}
-use Rattle.response.specs.declared.Block.{Block}
-use Rattle.response.specs.View.{notCounted, addressOf, inputOf}
-use Rattle.response.specs.Code.{codeOf}
+use Rattle.forwarding.specs.declared.View.{View}
+use Rattle.forwarding.specs.declared.Incoming.{Incoming}
+use Rattle.written.specs.declared.Filled.{Filled}
+use Rattle.written.specs.declared.Block.{Block}
+use Rattle.forwarding.specs.View.{notCounted, addressOf, inputOf}
+use Rattle.forwarding.specs.Code.{codeOf}
 
 -- 224.0.0.2, all routers of the link: where upstream is not known
 abbrev pub allRouters : ℕ

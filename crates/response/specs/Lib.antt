@@ -1,7 +1,3 @@
--- A router's Standard Response Block (document 01, "One router's step", 2 to 5, and "Messages"): the codes and their order,
--- what the block is filled with, its bytes, and what ends a trace.
-pub mod View
-pub mod Code
+-- A router's Standard Response Block (document 01, "One router's step", 3 to 5): what it is filled with, and what ends a trace.
 pub mod Fill
-pub mod Bytes
 pub mod Inside

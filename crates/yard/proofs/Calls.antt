@@ -15,10 +15,10 @@ use Rattle.rows.proofs.Laws.{both-of, first-or-none, none-is, first-is}
 use Rattle.wire.proofs.Laws.{be-within}
 use Rattle.recent.specs.Entries.{empty}
 use Rattle.recent.proofs.Laws.{empty-well-formed}
-use Rattle.response.specs.declared.Note.{Note}
+use Rattle.written.specs.declared.Note.{Note}
 use Rattle.response.specs.Fill.{allRouters}
-use Rattle.response.specs.Bytes.{noteBytes}
-use Rattle.response.proofs.Laws.{note-length}
+use Rattle.written.specs.Bytes.{noteBytes}
+use Rattle.written.proofs.Laws.{note-length}
 use Rattle.message.specs.Format.{noteSize}
 use Rattle.message.specs.Header.{headerOf}
 use Rattle.drops.specs.Arrival.{Arrival}
@@ -33,7 +33,7 @@ use Rattle.yard.specs.Walk.{notSent, rowsFor, sentFor}
 use Rattle.yard.specs.Inside.{Called}
 use Rattle.format.specs.declared.Format.{Format}
 use Rattle.format.specs.Sizes.{Sound, outputSize}
-use Rattle.response.specs.Inside.{Writes}
+use Rattle.written.specs.Inside.{Writes}
 
 -- the walk lends what is right: room enough, and an empty recent list
 pub lent-right : (o n : List ℕ) → length o ≡ outputSize → length n ≡ noteSize → firstOf (lentRows (length o) (length n) empty) ≡ 0

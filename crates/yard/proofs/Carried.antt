@@ -7,15 +7,15 @@ use mathlib.Core.Path.{_≡_, refl, sym, ap, _∙_}
 use native.Mathlib.Omega.{arith}
 use lib.ListN.{length, take, getD}
 use lib.Seq.{take-suc, take-length}
-use Rattle.response.specs.declared.Block.{Block}
-use Rattle.response.specs.Bytes.{blockBytes}
+use Rattle.written.specs.declared.Block.{Block}
+use Rattle.written.specs.Bytes.{blockBytes}
 use Rattle.message.specs.Format.{request, reply, noteSize}
 use Rattle.message.specs.Header.{headerOf, retyped}
 use Rattle.message.specs.Blocks.{standardBlocks, lastCoded}
 use Rattle.message.specs.Room.{Full, HasRoom}
 use Rattle.message.proofs.Laws.{Accepted, no-room-has-standard, sent-standard-blocks, coded-standard-blocks}
 use Rattle.engine.specs.Answer.{longerMessage}
-use Rattle.response.specs.Code.{codeNoSpace}
+use Rattle.forwarding.specs.Code.{codeNoSpace}
 use Rattle.engine.proofs.Laws.{longer-as, taken-room}
 use Rattle.yard.specs.Walk.{Visit}
 use Rattle.yard.specs.Faithful.{Accepts, blockFor, blockDue, blocksDue, roomAt}
@@ -26,7 +26,7 @@ use Rattle.format.specs.Sizes.{Sound, leastRoom, outputSize}
 use Rattle.recent.specs.Entries.{empty}
 use Rattle.drops.proofs.Laws.{taken}
 use Rattle.yard.specs.Yard.{sheetAt}
-use Rattle.response.specs.Inside.{Writes}
+use Rattle.written.specs.Inside.{Writes}
 
 -- all but the last of some visits, and the last
 all-due : (f : Visit → List ℕ) (vs : List Visit) (w : Visit) → 0 < length vs → map f (take (length vs - 1) vs) ++ (f (getD vs (length vs - 1) w) ∷ []) ≡ map f vs

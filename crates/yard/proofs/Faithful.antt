@@ -20,7 +20,7 @@ use Rattle.yard.proofs.Traces.{TraceOf, walk-traced, received-right, st
 use Rattle.yard.proofs.Carried.{received-header, received-blocks, last-with-room, last-without-room}
 use Rattle.format.specs.declared.Format.{Format}
 use Rattle.format.specs.Sizes.{Sound}
-use Rattle.response.specs.Inside.{Writes}
+use Rattle.written.specs.Inside.{Writes}
 
 none-there : (l : List (List ℕ)) → length l ≡ 0 → l ≡ []
 none-there [] e = refl

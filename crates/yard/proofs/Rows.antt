@@ -35,7 +35,7 @@ use Rattle.yard.proofs.Turns.{end-not-on, end-group, end-held, goes-on,
 use Rattle.yard.proofs.Traces.{walk-within}
 use Rattle.format.specs.declared.Format.{Format}
 use Rattle.format.specs.Sizes.{Sound, outputSize}
-use Rattle.response.specs.Inside.{Writes}
+use Rattle.written.specs.Inside.{Writes}
 
 pub counted : (F : Format) (s : List ℕ) (b : Blocks) → b ≡ blocksSeen F s → b .count ≡ standardCount F s
 unfolding blocksSeen

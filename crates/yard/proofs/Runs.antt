@@ -14,7 +14,7 @@ use Rattle.yard.specs.Faithful.{Walks, run-over, run-on, RunOf}
 use Rattle.yard.proofs.Turns.{goes-on, falls, from-ends, from-on}
 use Rattle.format.specs.declared.Format.{Format}
 use Rattle.format.specs.Sizes.{Sound}
-use Rattle.response.specs.Inside.{Writes}
+use Rattle.written.specs.Inside.{Writes}
 
 module _ {F : Format} (sound : Sound F) (writes : Writes F) where
   module _ (yard times : List ℕ) where

@@ -8,7 +8,7 @@ use native.Mathlib.Omega.{arith}
 use native.Mathlib.Nat.{le-div-iff-mul-le}
 use lib.ListN.{length, getD}
 use Rattle.recent.specs.Entries.{empty}
-use Rattle.response.specs.declared.Block.{Block}
+use Rattle.written.specs.declared.Block.{Block}
 use Rattle.message.specs.Format.{noteSize}
 use Rattle.message.specs.Room.{hopsLeft}
 use Rattle.message.proofs.Laws.{Accepted}
@@ -21,7 +21,7 @@ use Rattle.yard.proofs.Turns.{Onward, Ending, full, longer, goes-on, st
 use Rattle.yard.proofs.Runs.{walk-runs}
 use Rattle.format.specs.declared.Format.{Format}
 use Rattle.format.specs.Sizes.{Sound, outputSize}
-use Rattle.response.specs.Inside.{Writes}
+use Rattle.written.specs.Inside.{Writes}
 
 pub data Trace (F : Format) (yard times : List ℕ) : Visit → List Visit → ℕ → List ℕ → Type 0 where
   ends : {v : Visit} {end : ℕ} {last : List ℕ} → Accepts F yard v → Ending F (roomAt F yard v) (v .arrival .message) (blockFor F yard times v) end last

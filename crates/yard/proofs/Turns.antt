@@ -12,7 +12,7 @@ use lib.ListN.{length, getD}
 use Rattle.address.specs.Addresses.{multicast}
 use Rattle.rows.proofs.Laws.{decided, first-or-none}
 use Rattle.recent.specs.Entries.{empty}
-use Rattle.response.specs.declared.Block.{Block}
+use Rattle.written.specs.declared.Block.{Block}
 use Rattle.message.specs.Format.{request, reply, noteSize}
 use Rattle.message.specs.Room.{Full, HasRoom, hopsLeft}
 use Rattle.drops.specs.Arrival.{arrival}
@@ -31,7 +31,7 @@ use Rattle.yard.proofs.Holders.{holder-found, holder-unique}
 use Rattle.yard.proofs.Calls.{sent-dropped, sent-taken}
 use Rattle.format.specs.declared.Format.{Format}
 use Rattle.format.specs.Sizes.{Sound, outputSize}
-use Rattle.response.specs.Inside.{Writes}
+use Rattle.written.specs.Inside.{Writes}
 
 -- what becomes of a Request sent on
 pub record Reaches (F : Format) (yard : List ℕ) (sent : Sent) : Type 0 where

@@ -8,16 +8,16 @@ use mathlib.Core.Logic.{_⊎_}
 use mathlib.Core.Path.{_≡_}
 use lib.ListN.{length, take, getD}
 use Rattle.rows.specs.Rows.{NoneApplies}
-use Rattle.response.specs.declared.Block.{Block}
+use Rattle.written.specs.declared.Block.{Block}
 use Rattle.response.specs.Fill.{blockOf}
-use Rattle.response.specs.Bytes.{blockBytes}
+use Rattle.written.specs.Bytes.{blockBytes}
 use Rattle.message.specs.Header.{headerOf, retyped}
 use Rattle.message.specs.Blocks.{standardCount, standardBlocks, lastCoded}
 use Rattle.message.specs.Room.{Full, HasRoom}
 use Rattle.engine.specs.View.{viewOf}
 use Rattle.engine.specs.Room.{roomFor}
 use Rattle.engine.specs.Answer.{sentOn, sentHome}
-use Rattle.response.specs.Code.{codeNoSpace}
+use Rattle.forwarding.specs.Code.{codeNoSpace}
 use Rattle.yard.specs.declared.Holder.{Holder}
 use Rattle.yard.specs.declared.Holder.the-variants.{Held, Nobody}
 use Rattle.yard.specs.Holders.{LowestHolder, NobodyHolds}

@@ -1,6 +1,6 @@
 -- `step_lent`: the step by sizes, with those of IPv4.
 use Rattle.format.specs.Sizes.{ipv4-sound}
-use Rattle.response.proofs.Laws.{ipv4-writes}
+use Rattle.written.proofs.Laws.{ipv4-writes}
 use borrow.Author.Needs.{needs}
 use Rattle.engine.proofs.step_lent.Statement.{statement}
 use Rattle.engine.proofs.step_lent.Tie as tie

@@ -2,7 +2,7 @@
 use mathlib.Core.Path.{_∙_}
 use native.Mathlib.Omega.{arith}
 use lib.ListN.{length-set}
-use Rattle.response.proofs.Laws.{block-length}
+use Rattle.written.proofs.Laws.{block-length}
 use Rattle.engine.proofs.Writes.{longer-written}
 use borrow.Author.Needs.{needs}
 use Rattle.engine.proofs.write_longer.Statement.{statement}

@@ -2,7 +2,7 @@
 -- what is sent on has one block more.
 use borrow.Author.Needs.{needs}
 use Rattle.format.specs.Sizes.{ipv4, ipv4-sound}
-use Rattle.response.proofs.Laws.{ipv4-writes}
+use Rattle.written.proofs.Laws.{ipv4-writes}
 use Rattle.message.specs.Room.{hopsLeft}
 use Rattle.yard.proofs.Rows.{message-within, message-measured, message-short, walk-over, hops-fall, ready-next, walk-goes-on, steps-fit}
 use Prim.Native.Nat.{ℕ, _<_}

@@ -3,7 +3,7 @@ use Rattle.recent.specs.Entries.{empty}
 use Rattle.yard.proofs.Calls.{lent-right, called}
 use borrow.Author.Needs.{needs}
 use Rattle.format.specs.Sizes.{ipv4-sound}
-use Rattle.response.proofs.Laws.{ipv4-writes}
+use Rattle.written.proofs.Laws.{ipv4-writes}
 use Rattle.yard.proofs.ask.Statement.{statement}
 use Rattle.yard.proofs.ask.Tie as tie
 

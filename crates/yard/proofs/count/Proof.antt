@@ -2,7 +2,7 @@
 use Rattle.yard.proofs.Rows.{no-block, count-fits, counted}
 use borrow.Author.Needs.{needs}
 use Rattle.format.specs.Sizes.{ipv4-sound}
-use Rattle.response.proofs.Laws.{ipv4-writes}
+use Rattle.written.proofs.Laws.{ipv4-writes}
 use Rattle.yard.proofs.count.Statement.{statement}
 use Rattle.yard.proofs.count.Tie as tie
 

@@ -1,7 +1,7 @@
 -- `enter`: each way out is one of the ends, or goes on to the router and interface that were found.
 use borrow.Author.Needs.{needs}
 use Rattle.format.specs.Sizes.{ipv4-sound}
-use Rattle.response.proofs.Laws.{ipv4-writes}
+use Rattle.written.proofs.Laws.{ipv4-writes}
 use Rattle.yard.proofs.Rows.{hop-ends, hop-group, hop-on, hop-nobody, held-fits}
 use Rattle.yard.proofs.enter.Statement.{statement}
 use Rattle.yard.proofs.enter.Tie as tie

@@ -2,7 +2,7 @@
 use mathlib.Core.List.{[]}
 use lib.Dec.{lit≤}
 use Rattle.format.specs.Sizes.{ipv4-sound}
-use Rattle.response.proofs.Laws.{ipv4-writes}
+use Rattle.written.proofs.Laws.{ipv4-writes}
 use Rattle.yard.proofs.Rows.{no-block}
 use Rattle.yard.proofs.refuse.Statement.{statement}
 use Rattle.yard.proofs.refuse.Tie as tie

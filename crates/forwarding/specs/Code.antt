@@ -10,8 +10,8 @@ use Rattle.interface.specs.Interface.{isMulticast, isBoundary}
 use Rattle.route_entry.specs.Route.{isRp, pruneSent, inMap}
 use Rattle.route.specs.declared.Chosen.{Chosen}
 use Rattle.route.specs.declared.Chosen.the-variants.{Found, Nothing}
-use Rattle.response.specs.declared.View.{View}
-use Rattle.response.specs.View.{boundaryOn}
+use Rattle.forwarding.specs.declared.View.{View}
+use Rattle.forwarding.specs.View.{boundaryOn}
 
 -- the codes, by their names in RFC 8487
 abbrev pub codeNoError : ℕ

@@ -1,7 +1,7 @@
 -- `boundary_on`: the incoming interface's own test, by cases.
 use borrow.Author.Needs.{needs}
-use Rattle.response.proofs.boundary_on.Statement.{statement}
-use Rattle.response.proofs.boundary_on.Tie as tie
+use Rattle.forwarding.proofs.boundary_on.Statement.{statement}
+use Rattle.forwarding.proofs.boundary_on.Tie as tie
 
 returns : tie.Need-returns
 returns c = cc

@@ -3,8 +3,8 @@ use Prim.Native.Nat.{ℕ}
 use mathlib.Core.List.{List, [], _∷_, _++_}
 use Rattle.wire.specs.Numbers.{bytes16, bytes32, bytes64}
 use Rattle.message.specs.Format.{standard, standardSize}
-use Rattle.response.specs.declared.Block.{Block}
-use Rattle.response.specs.declared.Note.{Note}
+use Rattle.written.specs.declared.Block.{Block}
+use Rattle.written.specs.declared.Note.{Note}
 
 -- type 4, length 52, zero; the fields in their order; a zero before S and mask
 unfoldable pub blockBytes : Block → List ℕ

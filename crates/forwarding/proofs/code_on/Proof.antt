@@ -1,10 +1,10 @@
 -- `code_on`: each way out is the first row that applies.
 use Rattle.rows.specs.Rows.{byFirst}
 use Rattle.rows.proofs.Laws.{first}
-use Rattle.response.proofs.Rows.{late-told}
+use Rattle.forwarding.proofs.Rows.{late-told}
 use borrow.Author.Needs.{needs}
-use Rattle.response.proofs.code_on.Statement.{statement}
-use Rattle.response.proofs.code_on.Tie as tie
+use Rattle.forwarding.proofs.code_on.Statement.{statement}
+use Rattle.forwarding.proofs.code_on.Tie as tie
 
 pub code-on-spec : {M : Type 1} → statement M
 unfolding byFirst

@@ -6,9 +6,9 @@ use lib.ListN.{set, replicate}
 use Rattle.wire.specs.Numbers.{bytes, bytes16, bytes32, bytes64}
 use Rattle.wire.specs.Parts.{splice}
 use Rattle.message.specs.Format.{standard, standardSize, codeOffset, noteSize}
-use Rattle.response.specs.declared.Block.{Block}
-use Rattle.response.specs.declared.Note.{Note}
-use Rattle.response.specs.Bytes.{blockBytes, noteBytes}
+use Rattle.written.specs.declared.Block.{Block}
+use Rattle.written.specs.declared.Note.{Note}
+use Rattle.written.specs.Bytes.{blockBytes, noteBytes}
 
 pub block-stored : (b : Block) (a1 a2 a3 a4 a5 a6 a7 a8 a9 : List ℕ)
     → a1 ≡ splice (set (set (replicate standardSize 0) 0 standard) 2 standardSize) 4 (bytes32 (b .time))

@@ -1,8 +1,8 @@
 -- `code_of`: by the route chosen, as the definition goes.
-use Rattle.response.proofs.Rows.{code-found, code-none-wrong, code-none}
+use Rattle.forwarding.proofs.Rows.{code-found, code-none-wrong, code-none}
 use borrow.Author.Needs.{needs}
-use Rattle.response.proofs.code_of.Statement.{statement}
-use Rattle.response.proofs.code_of.Tie as tie
+use Rattle.forwarding.proofs.code_of.Statement.{statement}
+use Rattle.forwarding.proofs.code_of.Tie as tie
 
 returns : tie.Need-returns
 returns c = search code-none-wrong

@@ -1,8 +1,8 @@
 -- `block_bytes`: the fields written one behind the other into zeros.
-use Rattle.response.proofs.Stores.{block-stored}
+use Rattle.written.proofs.Stores.{block-stored}
 use borrow.Author.Needs.{needs}
-use Rattle.response.proofs.block_bytes.Statement.{statement}
-use Rattle.response.proofs.block_bytes.Tie as tie
+use Rattle.written.proofs.block_bytes.Statement.{statement}
+use Rattle.written.proofs.block_bytes.Tie as tie
 
 returns : tie.Need-returns
 returns c = search block-stored

@@ -2,8 +2,8 @@
 use Rattle.rows.specs.Rows.{byFirst}
 use Rattle.rows.proofs.Laws.{first}
 use borrow.Author.Needs.{needs}
-use Rattle.response.proofs.late_code.Statement.{statement}
-use Rattle.response.proofs.late_code.Tie as tie
+use Rattle.forwarding.proofs.late_code.Statement.{statement}
+use Rattle.forwarding.proofs.late_code.Tie as tie
 
 pub late-code-spec : {M : Type 1} → statement M
 unfolding byFirst

@@ -1,8 +1,8 @@
 -- `note_bytes`: the fields written one behind the other into zeros.
-use Rattle.response.proofs.Stores.{note-stored}
+use Rattle.written.proofs.Stores.{note-stored}
 use borrow.Author.Needs.{needs}
-use Rattle.response.proofs.note_bytes.Statement.{statement}
-use Rattle.response.proofs.note_bytes.Tie as tie
+use Rattle.written.proofs.note_bytes.Statement.{statement}
+use Rattle.written.proofs.note_bytes.Tie as tie
 
 returns : tie.Need-returns
 returns c = search note-stored

@@ -1,7 +1,7 @@
 -- `in_scope`: the tests of the definition, with the callees' answers.
 use borrow.Author.Needs.{needs}
-use Rattle.response.proofs.in_scope.Statement.{statement}
-use Rattle.response.proofs.in_scope.Tie as tie
+use Rattle.forwarding.proofs.in_scope.Statement.{statement}
+use Rattle.forwarding.proofs.in_scope.Tie as tie
 
 returns : tie.Need-returns
 returns c = cc

@@ -2,8 +2,8 @@
 use Prim.Native.Nat.{ℕ}
 use mathlib.Core.Bool.{Bool, false}
 use Rattle.interface.specs.Interface.{isBoundary}
-use Rattle.response.specs.declared.Incoming.{Incoming}
-use Rattle.response.specs.declared.Incoming.the-variants.{Known, Unknown}
+use Rattle.forwarding.specs.declared.Incoming.{Incoming}
+use Rattle.forwarding.specs.declared.Incoming.the-variants.{Known, Unknown}
 
 -- a boundary on the incoming interface; there is none where it is unknown
 abbrev pub boundaryOn : Incoming → Bool
