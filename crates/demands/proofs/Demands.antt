@@ -16,8 +16,8 @@ use Rattle.written.specs.Bytes.{blockBytes}
 use Rattle.tables.specs.Tables.{interfaceOf}
 use Rattle.drops.proofs.Laws.{taken}
 use Rattle.written.proofs.Laws.{ipv4-writes}
-use Rattle.engine.proofs.Laws.{sent-on-fits}
-use Rattle.engine.specs.Answer.{sentOn, sentHome, sentBy}
+use Rattle.sending.proofs.Laws.{sent-on-fits}
+use Rattle.sending.specs.Answer.{sentOn, sentHome, sentBy}
 use Rattle.engine.specs.Step.{stepOf}
 use Rattle.reply.specs.declared.Standard.{Standard}
 use Rattle.reply.specs.declared.Handed.{Handed}

@@ -21,11 +21,12 @@ use Rattle.written.specs.Bytes.{blockBytes}
 use Rattle.message.specs.Format.{request, reply, standardSize, codeOffset}
 use Rattle.message.specs.Blocks.{lastStandard}
 use Rattle.message.specs.Room.{isFull, Full, HasRoom}
-use Rattle.engine.specs.Room.{linkOf, roomWith, roomFor}
-use Rattle.engine.specs.View.{incomingFor, viewWith}
-use Rattle.engine.specs.Answer.{longerMessage, longerAnswer, sentBy}
+use Rattle.view.specs.Room.{linkOf, roomWith, roomFor}
+use Rattle.view.specs.View.{incomingFor, viewWith}
+use Rattle.sending.specs.Answer.{longerMessage, longerAnswer, sentBy}
 use Rattle.engine.specs.Step.{Outcome, recentAfter, answeredBy, stepOf}
-use Rattle.engine.proofs.Laws.{drop-changes-nothing, taken-is-sent, sent-answer}
+use Rattle.engine.proofs.Laws.{drop-changes-nothing, taken-is-sent}
+use Rattle.sending.proofs.Laws.{sent-answer}
 use Rattle.demands.specs.Engine.{Engine, Call, run, message, header, chosen, here, view, mtuBy, room, rows, Demand1, BlockOf, ends, replied, passedOn, Demand2, EngineMeets}
 use Rattle.format.specs.Sizes.{ipv4, roomOf}
 

@@ -21,7 +21,7 @@ use Rattle.clock.specs.Clock.{clockOf, startOf, advanceOf, arrivalOf}
 use Rattle.clock.specs.Unix.{unixOf}
 use Rattle.drops.specs.Arrival.{arrival}
 use Rattle.drops.specs.Drop.{dropRoom}
-use Rattle.engine.specs.Answer.{sentHome}
+use Rattle.sending.specs.Answer.{sentHome}
 use Rattle.engine.specs.Step.{Outcome, outcome, stepOf}
 use Rattle.yard.specs.Walk.{Visit, visit, Walk, walkRows, walkOf, walkedOf}
 use Rattle.message.specs.Format.{standardSize}

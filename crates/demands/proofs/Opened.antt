@@ -28,9 +28,9 @@ use Rattle.recent.specs.Layout.{wellFormed}
 use Rattle.recent.specs.Entries.{empty, firstEntries, someIsOf, seenIn, enteredIn}
 use Rattle.drops.specs.Arrival.{routeFor, lastHopFor}
 use Rattle.drops.specs.Drop.{lendingRows, deliveryRows, routeRows, table}
-use Rattle.engine.specs.View.{incomingFor, viewWith}
-use Rattle.engine.specs.Room.{roomWith}
-use Rattle.engine.specs.Answer.{longerMessage, longerAnswer, sentBy}
+use Rattle.view.specs.View.{incomingFor, viewWith}
+use Rattle.view.specs.Room.{roomWith}
+use Rattle.sending.specs.Answer.{longerMessage, longerAnswer, sentBy}
 use Rattle.engine.specs.Step.{recentAfter, stepOf}
 use Rattle.yard.specs.Yard.{sheetAt, yardOk, lowestFrom, holderIn}
 use Rattle.yard.specs.Walk.{sentFor, endOf, walkBy, walkFrom, walkRows, walkOf}

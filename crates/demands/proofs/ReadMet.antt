@@ -26,9 +26,10 @@ use Rattle.message.specs.Room.{Full, HasRoom}
 use Rattle.message.proofs.Laws.{Accepted, no-room-has-standard, sent-length, sent-header, sent-form, coded-length, coded-header, coded-form}
 use Rattle.drops.specs.Arrival.{Arrival}
 use Rattle.drops.proofs.Laws.{taken}
-use Rattle.engine.specs.Answer.{Sent, sentHome, fullMessage, longerMessage, sentBy}
+use Rattle.sending.specs.Answer.{Sent, sentHome, fullMessage, longerMessage, sentBy}
 use Rattle.engine.specs.Step.{stepOf}
-use Rattle.engine.proofs.Laws.{sent-cases, longer-as, room-most, taken-room}
+use Rattle.sending.proofs.Laws.{sent-cases, longer-as, room-most}
+use Rattle.engine.proofs.Laws.{taken-room}
 use Rattle.reply.specs.declared.Standard.{Standard}
 use Rattle.reply.specs.declared.Handed.{Handed}
 use Rattle.reply.specs.declared.Reader.{Reader}
@@ -45,7 +46,7 @@ use Rattle.demands.proofs.EngineMet.{product-block}
 use Rattle.demands.proofs.WalkMet.{blank-length, mapped-at, as-sent, walk-meets}
 use Rattle.format.specs.Sizes.{ipv4, ipv4-sound, leastRoom, outputSize}
 use Rattle.written.proofs.Laws.{ipv4-writes}
-use Rattle.engine.specs.Room.{roomFor}
+use Rattle.view.specs.Room.{roomFor}
 
 -- a Reply by an accepted message's header
 reply-known : (m s : List ℕ) → Accepted ipv4 m → headerOf s ≡ retyped reply (headerOf m) → length m ≤ length s → length s ≤ most → rightForm ipv4 s ≡ true → Known s

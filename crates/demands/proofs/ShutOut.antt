@@ -19,7 +19,7 @@ use Rattle.message.specs.Format.{most, codeOffset}
 use Rattle.message.specs.Blocks.{standardBlocks}
 use Rattle.message.specs.Room.{HasRoom}
 use Rattle.drops.specs.Drop.{dropSheet, lastDrop}
-use Rattle.engine.specs.Answer.{sentOn, sentHome}
+use Rattle.sending.specs.Answer.{sentOn, sentHome}
 use Rattle.engine.specs.Step.{Outcome, outcome, stepOf}
 use Rattle.yard.specs.Yard.{routersIn}
 use Rattle.yard.specs.Walk.{Visit}

@@ -23,7 +23,7 @@ use Rattle.message.specs.Blocks.{lastCoded}
 use Rattle.drops.specs.Arrival.{arrival}
 use Rattle.drops.specs.Drop.{nearTtl}
 use Rattle.drops.proofs.Laws.{drop-numbers}
-use Rattle.engine.specs.Answer.{Sent, sentOn}
+use Rattle.sending.specs.Answer.{Sent, sentOn}
 use Rattle.engine.specs.Step.{Outcome, outcome, stepOf}
 use Rattle.yard.specs.Yard.{sheetAt}
 use Rattle.yard.specs.Walk.{toGroup, nobodyThere, Visit, visit, sentAt, endOf, nextOf, Walk, refusedWalk, walkFrom, walkRows, walkOf}

@@ -30,8 +30,8 @@ use Rattle.message.specs.Blocks.{lastStandard}
 use Rattle.message.specs.Room.{Full, HasRoom, hopsUsed}
 use Rattle.drops.specs.Arrival.{Arrival, isQuery, routeFor}
 use Rattle.drops.specs.Drop.{table}
-use Rattle.engine.specs.View.{incomingFor, viewOf}
-use Rattle.engine.specs.Answer.{sentOn, sentHome, mtracePort, anyInterface}
+use Rattle.view.specs.View.{incomingFor, viewOf}
+use Rattle.sending.specs.Answer.{sentOn, sentHome, mtracePort, anyInterface}
 use Rattle.engine.specs.Step.{Outcome, outcome}
 use Rattle.format.specs.Sizes.{ipv4, roomOf}
 

@@ -10,7 +10,7 @@ use Rattle.clock.specs.declared.Tick.{Tick}
 use Rattle.message.specs.Blocks.{standardCount}
 use Rattle.drops.specs.Arrival.{arrival}
 use Rattle.drops.specs.Drop.{dropRoom}
-use Rattle.engine.specs.Answer.{sentHome}
+use Rattle.sending.specs.Answer.{sentHome}
 use Rattle.servicebough.specs.Ticks.{tickSize}
 use Rattle.servicebough.specs.Answers.{answerSize}
 use Rattle.yard.specs.Walk.{Visit}

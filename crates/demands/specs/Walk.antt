@@ -20,7 +20,7 @@ use Rattle.message.specs.Blocks.{standardCount, standardBlocks}
 use Rattle.message.specs.Room.{Full, HasRoom}
 use Rattle.drops.specs.Arrival.{arrival}
 use Rattle.drops.specs.Drop.{nearTtl}
-use Rattle.engine.specs.Answer.{sentOn, sentHome}
+use Rattle.sending.specs.Answer.{sentOn, sentHome}
 use Rattle.engine.specs.Step.{Outcome}
 use Rattle.yard.specs.declared.Walked.{Walked}
 use Rattle.yard.specs.Yard.{sheetAt}

@@ -2,8 +2,6 @@
 pub mod Laws
 pub mod Determined
 -- Where they are proved; and a law for each way out of a function.
-mod Sent
-mod On
-mod Rows
-mod Writes
+mod Taking
+mod Entering
 mod Steps

@@ -33,19 +33,21 @@ use Rattle.drops.specs.declared.Verdict.{Verdict}
 use Rattle.rows.specs.Rows.{firstOf}
 use Rattle.drops.specs.Arrival.{Arrival, arrival, isQuery, routeFor, lastHopFor}
 use Rattle.drops.specs.Inside.{lentRows, passVerdict, judgedOf, verdictOf}
-use Rattle.engine.specs.View.{incomingFor, viewWith}
-use Rattle.engine.specs.Answer.{goesHome, fullMessage, longerAnswer, sentBy}
+use Rattle.view.specs.View.{incomingFor, viewWith}
+use Rattle.sending.specs.Answer.{goesHome, fullMessage, longerAnswer, sentBy}
 use Rattle.engine.specs.Step.{outcome, recentAfter, StepMeets}
-use Rattle.engine.specs.Inside.{RouteThere, Written, WithRoom, WithoutRoom, Ready, answered}
+use Rattle.view.specs.Inside.{RouteThere}
+use Rattle.sending.specs.Inside.{Written, WithRoom, WithoutRoom}
+use Rattle.engine.specs.Inside.{Ready, answered}
 use Rattle.message.specs.Room.{isFull, Full, HasRoom}
 use Rattle.forwarding.specs.Code.{codes}
 use Rattle.response.specs.Fill.{blockOf, endsTrace}
 use Rattle.response.specs.Inside.{RouteFits}
-use Rattle.engine.proofs.Sent.{drop-changes-nothing, taken-is-sent}
+use Rattle.engine.proofs.Taking.{drop-changes-nothing, taken-is-sent}
 use Rattle.drops.proofs.Laws.{Taken, taken, lent-first, lent-none, lent-formed, verdict-first, verdict-none, verdict-passes}
 use Rattle.format.specs.declared.Format.{Format}
 use Rattle.format.specs.Sizes.{Sound, roomOf, leastRoom}
-use Rattle.engine.specs.Room.{linkOf, roomWith, roomFor}
+use Rattle.view.specs.Room.{linkOf, roomWith, roomFor}
 
 module _ {F : Format} (sound : Sound F) where
   -- the test for room, by the MTU of the link in view

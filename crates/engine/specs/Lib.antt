@@ -1,6 +1,3 @@
--- One router's step (document 01, "One router's step").
-pub mod View
-pub mod Room
-pub mod Answer
+-- One router's step as a whole (document 01, "One router's step").
 pub mod Step
 pub mod Inside

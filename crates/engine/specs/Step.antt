@@ -12,7 +12,7 @@ use Rattle.message.specs.declared.Header.{Header}
 use Rattle.message.specs.Header.{headerOf}
 use Rattle.drops.specs.Arrival.{Arrival, isQuery}
 use Rattle.drops.specs.Drop.{table}
-use Rattle.engine.specs.Answer.{Sent, sentBy}
+use Rattle.sending.specs.Answer.{Sent, sentBy}
 use Rattle.format.specs.declared.Format.{Format}
 
 -- the answer, and the recent list, the output and the answer record as they are left

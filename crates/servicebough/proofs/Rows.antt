@@ -10,7 +10,7 @@ use Rattle.rows.proofs.Laws.{first}
 use Rattle.wire.specs.Numbers.{bytes32, bytes64}
 use Rattle.wire.specs.Parts.{splice}
 use Rattle.clock.specs.declared.Tick.{Tick}
-use Rattle.engine.specs.Answer.{sentHome}
+use Rattle.sending.specs.Answer.{sentHome}
 use Rattle.yard.specs.declared.Walked.{Walked}
 use Rattle.yard.specs.Walk.{Walk, Tells}
 use Rattle.drops.specs.Drop.{dropRoom}

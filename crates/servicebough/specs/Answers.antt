@@ -8,7 +8,7 @@ use Rattle.rows.specs.Rows.{Row, row, byFirst}
 use Rattle.wire.specs.Numbers.{bytes32}
 use Rattle.wire.specs.Parts.{splice}
 use Rattle.drops.specs.Drop.{dropRoom}
-use Rattle.engine.specs.Answer.{sentHome}
+use Rattle.sending.specs.Answer.{sentHome}
 use Rattle.yard.specs.declared.Walked.{Walked}
 use Rattle.yard.specs.Walk.{Walk, walkedOf}
 use Rattle.format.specs.Sizes.{ipv4}

@@ -115,7 +115,7 @@ fn write_answer(w: Walked, answer: &mut [u8])
     requires { ⌜ answerSize ≤ length (now answer) ⌝ }
     ensures { λ _. ⌜ now (answer .exit) ≡ answerLeft w (now (answer .entry)) ⌝ }
 {
-    if w.end < engine::SENT_HOME {
+    if w.end < sending::SENT_HOME {
         return;
     }
     wire::put32(answer, 0, w.end);

@@ -7,7 +7,7 @@ use native.Mathlib.Nat.{add-zero}
 use borrow.Author.Tests.{lt-ltb, le-ltb, ne-eqb}
 use lib.ListN.{length, length-append, take-append-drop}
 use Rattle.wire.specs.Parts.{splice}
-use Rattle.engine.specs.Answer.{sentHome}
+use Rattle.sending.specs.Answer.{sentHome}
 use Rattle.yard.specs.declared.Walked.{Walked}
 use Rattle.wire.proofs.Laws.{splice-join}
 use Rattle.wire.specs.Numbers.{byteAt}

@@ -7,7 +7,7 @@ use lib.Dec.{ltb, eqb}
 use Rattle.wire.specs.Numbers.{byteAt}
 use Rattle.message.specs.Format.{headerSize, most, standardSize, incomingOffset, outgoingOffset, upstreamOffset, codeOffset}
 use Rattle.message.specs.Blocks.{standardBlocks}
-use Rattle.engine.specs.Answer.{sentHome}
+use Rattle.sending.specs.Answer.{sentHome}
 use Rattle.yard.specs.declared.Walked.{Walked}
 use Rattle.yard.specs.Walk.{Walk, walkedOf}
 use Rattle.text.specs.Ascii.{ascii}

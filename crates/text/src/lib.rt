@@ -256,7 +256,7 @@ fn end_text(end: u32, text: &mut [u8], at: usize) -> usize
     requires { ⌜ at + 10 ≤ length (now text) ⌝ }
     ensures { λ r. ⌜ Written (endText end) 10 at (now (text .entry)) (now (text .exit)) r ⌝ }
 {
-    if end == engine::SENT_HOME {
+    if end == sending::SENT_HOME {
         return word(b"reply", text, at);
     }
     number(b"", end, text, at)

@@ -25,10 +25,11 @@ use Rattle.drops.specs.Arrival.{Arrival}
 use Rattle.drops.specs.Drop.{lendingRows}
 use Rattle.drops.specs.Inside.{lentRows}
 use Rattle.rows.specs.Rows.{byFirst, firstOf, NoneApplies, IsFirst}
-use Rattle.engine.specs.Answer.{sentBy}
+use Rattle.sending.specs.Answer.{sentBy}
 use Rattle.engine.specs.Step.{Outcome, outcome, answeredBy, stepOf}
 use Rattle.drops.proofs.Laws.{taken}
-use Rattle.engine.proofs.Laws.{drop-changes-nothing, taken-is-sent, sent-fits, sent-to, sent-noted}
+use Rattle.engine.proofs.Laws.{drop-changes-nothing, taken-is-sent}
+use Rattle.sending.proofs.Laws.{sent-fits, sent-to, sent-noted}
 use Rattle.yard.specs.Walk.{notSent, rowsFor, sentFor}
 use Rattle.yard.specs.Inside.{Called}
 use Rattle.format.specs.declared.Format.{Format}

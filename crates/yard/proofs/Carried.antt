@@ -14,9 +14,10 @@ use Rattle.message.specs.Header.{headerOf, retyped}
 use Rattle.message.specs.Blocks.{standardBlocks, lastCoded}
 use Rattle.message.specs.Room.{Full, HasRoom}
 use Rattle.message.proofs.Laws.{Accepted, no-room-has-standard, sent-standard-blocks, coded-standard-blocks}
-use Rattle.engine.specs.Answer.{longerMessage}
+use Rattle.sending.specs.Answer.{longerMessage}
 use Rattle.forwarding.specs.Code.{codeNoSpace}
-use Rattle.engine.proofs.Laws.{longer-as, taken-room}
+use Rattle.sending.proofs.Laws.{longer-as}
+use Rattle.engine.proofs.Laws.{taken-room}
 use Rattle.yard.specs.Walk.{Visit}
 use Rattle.yard.specs.Faithful.{Accepts, blockFor, blockDue, blocksDue, roomAt}
 use Rattle.yard.proofs.Turns.{Ending, full, longer, next-is}

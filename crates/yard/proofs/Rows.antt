@@ -20,7 +20,7 @@ use Rattle.message.specs.Room.{hopsLeft}
 use Rattle.message.proofs.Laws.{standards-few}
 use Rattle.drops.specs.Drop.{nearTtl}
 use Rattle.drops.specs.Arrival.{Arrival, arrival}
-use Rattle.engine.specs.Answer.{Sent, sentOn}
+use Rattle.sending.specs.Answer.{Sent, sentOn}
 use Rattle.yard.specs.declared.Call.{Call}
 use Rattle.yard.specs.declared.Hop.{Hop}
 use Rattle.yard.specs.declared.Walked.{Walked}

@@ -8,7 +8,7 @@ use borrow.Author.Tests.{eqb-true, eqb-false}
 use lib.Dec.{eqb}
 use Rattle.rows.proofs.Laws.{decided}
 use Rattle.message.specs.Room.{hopsLeft}
-use Rattle.engine.specs.Answer.{sentOn}
+use Rattle.sending.specs.Answer.{sentOn}
 use Rattle.yard.specs.Walk.{Visit, sentAt, endOf, nextOf, walkFrom}
 use Rattle.yard.specs.Faithful.{Walks, run-over, run-on, RunOf}
 use Rattle.yard.proofs.Turns.{goes-on, falls, from-ends, from-on}

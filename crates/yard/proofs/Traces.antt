@@ -13,7 +13,7 @@ use Rattle.message.specs.Format.{noteSize}
 use Rattle.message.specs.Room.{hopsLeft}
 use Rattle.message.proofs.Laws.{Accepted}
 use Rattle.drops.proofs.Laws.{Taken, taken}
-use Rattle.engine.proofs.Laws.{blocks-below-hops}
+use Rattle.sending.proofs.Laws.{blocks-below-hops}
 use Rattle.yard.specs.Yard.{sheetAt}
 use Rattle.yard.specs.Walk.{Visit, sentAt, nextOf, Walk, walkFrom}
 use Rattle.yard.specs.Faithful.{Walks, run-over, run-on, Accepts, blockFor, roomAt, EndsWell, mostSteps}

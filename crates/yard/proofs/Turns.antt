@@ -18,9 +18,9 @@ use Rattle.message.specs.Room.{Full, HasRoom, hopsLeft}
 use Rattle.drops.specs.Arrival.{arrival}
 use Rattle.drops.specs.Drop.{nearTtl}
 use Rattle.rows.specs.Rows.{firstOf}
-use Rattle.engine.specs.Answer.{Sent, sentOn, sentHome, fullMessage, longerMessage, sentBy}
+use Rattle.sending.specs.Answer.{Sent, sentOn, sentHome, fullMessage, longerMessage, sentBy}
 use Rattle.drops.proofs.Laws.{Taken, taken, drop-numbers}
-use Rattle.engine.proofs.Laws.{sent-cases, sent-answer, sent-fits, Grown, sent-on-grows, no-later-drop}
+use Rattle.sending.proofs.Laws.{sent-cases, sent-answer, sent-fits, Grown, sent-on-grows, no-later-drop}
 use Rattle.yard.specs.declared.Holder.{Holder}
 use Rattle.yard.specs.declared.Holder.the-variants.{Held, Nobody}
 use Rattle.yard.specs.Yard.{sheetAt, holderIn}

@@ -14,9 +14,9 @@ use Rattle.written.specs.Bytes.{blockBytes}
 use Rattle.message.specs.Header.{headerOf, retyped}
 use Rattle.message.specs.Blocks.{standardCount, standardBlocks, lastCoded}
 use Rattle.message.specs.Room.{Full, HasRoom}
-use Rattle.engine.specs.View.{viewOf}
-use Rattle.engine.specs.Room.{roomFor}
-use Rattle.engine.specs.Answer.{sentOn, sentHome}
+use Rattle.view.specs.View.{viewOf}
+use Rattle.view.specs.Room.{roomFor}
+use Rattle.sending.specs.Answer.{sentOn, sentHome}
 use Rattle.forwarding.specs.Code.{codeNoSpace}
 use Rattle.yard.specs.declared.Holder.{Holder}
 use Rattle.yard.specs.declared.Holder.the-variants.{Held, Nobody}

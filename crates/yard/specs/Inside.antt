@@ -9,7 +9,7 @@ use Rattle.sheet.specs.Sheet.{layoutOf}
 use Rattle.message.specs.Blocks.{standardCount}
 use Rattle.drops.specs.Drop.{nearTtl}
 use Rattle.drops.specs.Arrival.{arrival}
-use Rattle.engine.specs.Answer.{Sent, sentOn}
+use Rattle.sending.specs.Answer.{Sent, sentOn}
 use Rattle.yard.specs.declared.Call.{Call}
 use Rattle.yard.specs.declared.Hop.{Hop}
 use Rattle.yard.specs.declared.Walked.{Walked}

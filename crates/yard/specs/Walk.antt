@@ -16,7 +16,7 @@ use Rattle.message.specs.Blocks.{standardCount}
 use Rattle.message.specs.Room.{hopsLeft}
 use Rattle.drops.specs.Arrival.{Arrival, arrival}
 use Rattle.drops.specs.Drop.{dropRoom, nearTtl, table}
-use Rattle.engine.specs.Answer.{Sent, sentOn, sentBy}
+use Rattle.sending.specs.Answer.{Sent, sentOn, sentBy}
 use Rattle.yard.specs.declared.Walked.{Walked}
 use Rattle.yard.specs.declared.Holder.{Holder}
 use Rattle.yard.specs.declared.Holder.the-variants.{Held, Nobody}

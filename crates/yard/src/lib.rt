@@ -194,7 +194,7 @@ fn enter(
         sent,
     );
     let to = c.to;
-    if c.answer != engine::SENT_ON {
+    if c.answer != sending::SENT_ON {
         return ended(c.answer, c);
     }
     if address::multicast(to) {
@@ -203,7 +203,7 @@ fn enter(
     let holder = holder_in(yard, counts, yard.len() / SHEET_SIZE, to);
     match holder {
         Holder::Held(i, k) => Hop {
-            end: engine::SENT_ON,
+            end: sending::SENT_ON,
             length: c.length,
             to,
             router: i,
@@ -270,7 +270,7 @@ fn go(
         &mut sent,
     );
     let size = h.length;
-    if h.end != engine::SENT_ON {
+    if h.end != sending::SENT_ON {
         return finish(h.end, &sent[..size], output);
     }
     let w = go(

@@ -1,5 +1,5 @@
 -- `write_recent`: a Query is entered, anything else is not.
-use Rattle.engine.proofs.Writes.{query-entered, request-kept}
+use Rattle.engine.proofs.Entering.{query-entered, request-kept}
 use borrow.Author.Needs.{needs}
 use Rattle.engine.proofs.write_recent.Statement.{statement}
 use Rattle.engine.proofs.write_recent.Tie as tie

@@ -1,0 +1,3 @@
+-- What a router sends (document 01, "One router's step").
+pub mod Answer
+pub mod Inside
