@@ -30,12 +30,13 @@ use Rattle.demands.specs.Engine.{Engine, Call, run, rows, EngineMeets}
 use Rattle.demands.specs.Clock.{Start, Advance, DemandClock, DemandUnix}
 use Rattle.demands.specs.Walk.{Walker, callAt, Run, WalkMeets}
 use Rattle.demands.specs.Read.{ReadTruth, BlockFits, Says}
-use Rattle.demands.specs.Example.{twoRouters, twoTimes, paperQuery, startWith}
+use Rattle.worked.specs.Example.{twoRouters, twoTimes, paperQuery, startWith}
 use Rattle.demands.proofs.EngineMet.{engine-meets, no-other-engine}
 use Rattle.demands.proofs.ClockMet.{clock-meets, no-other-clock, unix-meets, no-other-unix}
 use Rattle.demands.proofs.WalkMet.{walkTold, walk-meets, no-other-walk}
 use Rattle.demands.proofs.ReadMet.{walk-readable, reading-true, one-reading, reads-back}
-use Rattle.demands.proofs.Worked.{failing, examples, worked, starts}
+use Rattle.worked.proofs.Worked.{failing, examples, worked}
+use Rattle.demands.proofs.Starts.{starts}
 use Rattle.format.specs.Sizes.{ipv4, ipv4-sound, ipAndUdp, outputSize}
 
 -- 1 and 2. The engine meets them, and whatever does gives its outcome in every call

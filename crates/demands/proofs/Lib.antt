@@ -2,10 +2,9 @@
 pub mod Demands
 pub mod ShutOut
 pub mod Entries
--- Where it is proved that the product meets them and that they leave no choice; and the worked examples.
+-- Where it is proved that the product meets them and that they leave no choice.
 mod EngineMet
 mod ClockMet
 mod WalkMet
 mod ReadMet
-mod Opened
-mod Worked
+mod Starts

@@ -10,7 +10,7 @@ use lib.ListN.{length, take, getD}
 use Rattle.rows.specs.Rows.{firstOf, NoneApplies}
 use Rattle.rows.proofs.Laws.{zero-none}
 use Rattle.wire.specs.Numbers.{byteAt, be32}
-use Rattle.wire.specs.Parts.{splice}
+use Rattle.wire.specs.Parts.{splice, blank}
 use Rattle.clock.specs.declared.Clock.{Clock}
 use Rattle.clock.specs.declared.Tick.{Tick}
 use Rattle.clock.specs.Clock.{lastTime, clockOf, issued}
@@ -25,11 +25,11 @@ use Rattle.yard.specs.Yard.{routersIn}
 use Rattle.yard.specs.Walk.{Visit}
 use Rattle.demands.specs.Engine.{Engine, Call, run, message, here, room, rows, ends, EngineMeets}
 use Rattle.demands.specs.Clock.{Start, Advance, DemandClock}
-use Rattle.demands.specs.Walk.{Told, Walker, callAt, blank, WalkMeets}
-use Rattle.demands.specs.Example.{address, linkedRouters, requestWith, twoRouters, twoTimes, queryFor, paperQuery, startWith}
+use Rattle.demands.specs.Walk.{Told, Walker, callAt, WalkMeets}
+use Rattle.worked.specs.Example.{address, linkedRouters, requestWith, twoRouters, twoTimes, queryFor, paperQuery, startWith}
 use Rattle.demands.proofs.EngineMet.{no-other-engine}
 use Rattle.demands.proofs.WalkMet.{walkTold, no-other-walk}
-use Rattle.demands.proofs.Opened.{opened}
+use Rattle.worked.proofs.Opened.{opened}
 use Rattle.format.specs.Sizes.{ipv4, roomOf, outputSize}
 
 -- a Query at router 0 of the paper's yard

@@ -31,7 +31,8 @@ use Rattle.yard.specs.Holders.{LowestHolder, NobodyHolds}
 use Rattle.yard.specs.Faithful.{Walks, run-over, run-on, Starts, blockDue, roomAt}
 use Rattle.yard.proofs.Laws.{called, sent-short, end-not-on, end-group, end-nobody, end-goes, nobody-or-somebody, walk-runs, one-run, not-refused-walks, walk-is-faithful, steps-within}
 use Rattle.demands.specs.Engine.{Engine, rows, room, BlockOf, EngineMeets}
-use Rattle.demands.specs.Walk.{Told, Walker, told, blank, callAt, sent, to, did, Run, stays, group, nobody, goes, Truth, Demand3, WalkMeets}
+use Rattle.demands.specs.Walk.{Told, Walker, told, callAt, sent, to, did, Run, stays, group, nobody, goes, Truth, Demand3, WalkMeets}
+use Rattle.wire.specs.Parts.{blank}
 use Rattle.demands.proofs.EngineMet.{block-is, room-is, engine-meets, no-other-engine}
 use Rattle.format.specs.Sizes.{ipv4, ipv4-sound, outputSize}
 use Rattle.written.proofs.Laws.{ipv4-writes}

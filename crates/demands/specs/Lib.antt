@@ -1,7 +1,6 @@
--- The demands of documents 01 and 02 on any engine, clock, walk and reader of Replies, and their worked examples.
+-- The demands of documents 01 and 02 on any engine, clock, walk and reader of Replies.
 pub mod Engine
 pub mod Clock
 pub mod Walk
 pub mod Read
 pub mod Entries
-pub mod Example

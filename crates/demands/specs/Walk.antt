@@ -5,10 +5,10 @@ use mathlib.Core.Bool.{true, false}
 use mathlib.Core.List.{List, [], _∷_}
 use mathlib.Core.Logic.{_⊎_}
 use mathlib.Core.Path.{_≡_}
-use lib.ListN.{length, take, getD, set, replicate}
+use lib.ListN.{length, take, getD, set}
 use Rattle.rows.specs.Rows.{NoneApplies, IsFirst}
 use Rattle.wire.specs.Numbers.{be16, be32}
-use Rattle.wire.specs.Parts.{splice}
+use Rattle.wire.specs.Parts.{splice, blank}
 use Rattle.address.specs.Addresses.{multicast}
 use Rattle.recent.specs.Entries.{empty}
 use Rattle.written.specs.declared.Block.{Block}
@@ -42,10 +42,6 @@ Walker = List ℕ → List ℕ → Visit → List ℕ → Told
 abbrev pub told : ℕ → ℕ → List ℕ → List ℕ → Told
 told end steps last output =
     record { answer = record { end = end; steps = steps; blocks = standardCount ipv4 last; length = length last }; output = splice output 0 last }
-
--- so many zeros
-unfoldable pub blank : ℕ → List ℕ
-blank n = replicate n 0
 
 -- the call at a visit: the router's sheet and time, an empty recent list, and output and record of zeros
 abbrev pub callAt : List ℕ → List ℕ → Visit → Call

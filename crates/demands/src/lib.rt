@@ -1,1 +1,1 @@
-// The demands on the whole, and the worked examples, as statements: specs/ has the examples, proofs/ what is shown of them.
+// The demands on the whole, as statements: specs/ has the demands, proofs/ what is shown of them.

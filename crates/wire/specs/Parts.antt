@@ -3,7 +3,7 @@ use Prim.Native.Nat.{ℕ, _+_, _/_, _%_}
 use mathlib.Core.Bool.{Bool, true, _&&_}
 use mathlib.Core.List.{List, [], _∷_, _++_}
 use lib.Dec.{leb, eqb}
-use lib.ListN.{length, take, drop}
+use lib.ListN.{length, take, drop, replicate}
 
 -- the n bytes that begin at a place
 abbrev pub part : ℕ → ℕ → List ℕ → List ℕ
@@ -21,3 +21,7 @@ wholeParts each most size = eqb (size % each) 0 && leb 1 (size / each) && leb (s
 unfoldable pub allZero : List ℕ → Bool
 allZero [] = true
 allZero (byte ∷ rest) = eqb byte 0 && allZero rest
+
+-- so many zeros
+unfoldable pub blank : ℕ → List ℕ
+blank n = replicate n 0

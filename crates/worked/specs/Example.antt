@@ -7,7 +7,7 @@ use Rattle.block.specs.Sum.{sumFrom}
 use Rattle.drops.specs.Arrival.{arrival}
 use Rattle.yard.specs.Walk.{Visit, visit, Walk, walkOf}
 use Rattle.text.specs.Ascii.{ascii}
-use Rattle.demands.specs.Walk.{blank}
+use Rattle.wire.specs.Parts.{blank}
 use Rattle.format.specs.Sizes.{ipv4, outputSize}
 
 -- an address by its four octets

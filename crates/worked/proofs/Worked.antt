@@ -12,15 +12,11 @@ use Rattle.clock.specs.Unix.{unixOf}
 use Rattle.clock.specs.Readings.{issues, times}
 use Rattle.message.specs.Format.{codeOffset}
 use Rattle.message.specs.Blocks.{standards, standardCount}
-use Rattle.rows.specs.Rows.{NoneApplies}
-use Rattle.rows.proofs.Laws.{zero-none}
-use Rattle.yard.specs.Walk.{Visit, Walk, walkRows}
-use Rattle.demands.specs.Engine.{rows}
-use Rattle.demands.specs.Walk.{callAt}
+use Rattle.yard.specs.Walk.{Walk}
 use Rattle.text.specs.Text.{textOf}
-use Rattle.demands.specs.Example.{address, linkedRouters, twoRouters, tracedIn, twoTimes, paperQuery, startWith, traced, paperInput, paperText}
-use Rattle.demands.proofs.Opened.{opened}
-use Rattle.format.specs.Sizes.{ipv4, outputSize}
+use Rattle.worked.specs.Example.{address, linkedRouters, tracedIn, traced, paperInput, paperText}
+use Rattle.worked.proofs.Opened.{opened}
+use Rattle.format.specs.Sizes.{ipv4}
 
 -- an example: its number, what the definitions give, what the paper says
 pub record Example : Type 0 where
@@ -72,11 +68,3 @@ examples =
 pub worked : failing examples ≡ []
 unfolding opened examples
 worked = refl
-
--- P1's trace is not refused, and its first router accepts it
-abbrev p1 : Visit
-p1 = startWith (paperQuery 10)
-
-pub starts : NoneApplies (walkRows ipv4 (twoRouters 0) twoTimes p1 outputSize) × NoneApplies (rows (callAt (twoRouters 0) twoTimes p1))
-unfolding opened
-starts = (zero-none (walkRows ipv4 (twoRouters 0) twoTimes p1 outputSize) refl refl, zero-none (rows (callAt (twoRouters 0) twoTimes p1)) refl refl)

@@ -1,7 +1,7 @@
 -- All that the worked examples and the wrong programs compute with, layer by layer: `unfolding opened`.
 use Prim.Native.Nat.{ℕ}
 use Rattle.wire.specs.Numbers.{be, bytes}
-use Rattle.wire.specs.Parts.{splice, allZero}
+use Rattle.wire.specs.Parts.{splice, allZero, blank}
 use Rattle.rows.specs.Rows.{byFirst}
 use Rattle.clock.specs.Clock.{timeFor, startOf, advanceOf}
 use Rattle.clock.specs.Unix.{unixOf}
@@ -37,8 +37,7 @@ use Rattle.yard.specs.Walk.{sentFor, endOf, walkBy, walkFrom, walkRows, walkOf}
 use Rattle.text.specs.Ascii.{ascii}
 use Rattle.text.specs.Input.{headOf, visitOf, timesOf, walkIn, walkFor}
 use Rattle.text.specs.Text.{decimal, dotted, addresses, codeText, lineOf, linesOf, endText, firstLine, walkText, textOf}
-use Rattle.demands.specs.Walk.{blank}
-use Rattle.demands.specs.Example.{linkedRouters, standardsOf, requestWith, tracedIn, sheetBlockBytes, twoRouters, queryFor, traced, paperInput, paperText}
+use Rattle.worked.specs.Example.{linkedRouters, standardsOf, requestWith, tracedIn, sheetBlockBytes, twoRouters, queryFor, traced, paperInput, paperText}
 
 unfoldable pub opened : ℕ
 unfolding be bytes splice allZero byFirst timeFor startOf advanceOf unixOf afterBy issuesBy carried sumFrom sumOk frameOk hosts samePrefix zeroPast interfaceAt interfaceOk routeAt routeOk every listed blockOk interfaceBlocksIn interfaceBlocks entriesIn interfacesIn routesIn interfaceBlockOk routeBlockOk blockOkWith validSheet counted layoutOf interfaceOf routeOf interfacesOf routesOf prohibitedOf holderFrom holderOf servesBoth servesGroup servesSource longer longestBy orElse whichRoute reaches someReaches properLastHop codes filledOf blockOf endsTrace blockBytes noteBytes headerOf fitsIn begins blocksBy blocksFrom blocksOf totalSize standardPlaces lastOr standards blocksEnd standardFirst fillsMessage rightForm standardBlocks headerRows messageRows wellFormed empty firstEntries someIsOf seenIn enteredIn routeFor lastHopFor lendingRows deliveryRows routeRows table incomingFor viewWith roomWith longerMessage longerAnswer sentBy recentAfter stepOf sheetAt yardOk lowestFrom holderIn sentFor endOf walkBy walkFrom walkRows walkOf ascii headOf visitOf timesOf walkIn walkFor decimal dotted addresses codeText lineOf linesOf endText firstLine walkText textOf blank sheetBlockBytes linkedRouters twoRouters queryFor standardsOf requestWith tracedIn traced paperInput paperText

@@ -1,0 +1,2 @@
+-- The yards and the Query of the worked examples.
+pub mod Example
