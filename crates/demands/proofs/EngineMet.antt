@@ -18,7 +18,7 @@ use Rattle.written.specs.declared.Block.{Block}
 use Rattle.forwarding.specs.Code.{codeNoSpace, codes}
 use Rattle.response.specs.Fill.{blockOf, endsTrace}
 use Rattle.written.specs.Bytes.{blockBytes}
-use Rattle.message.specs.Format.{request, reply, standardSize, codeOffset}
+use Rattle.header.specs.Format.{request, reply, standardSize, codeOffset}
 use Rattle.message.specs.Blocks.{lastStandard}
 use Rattle.message.specs.Room.{isFull, Full, HasRoom}
 use Rattle.view.specs.Room.{linkOf, roomWith, roomFor}

@@ -24,7 +24,7 @@ use Rattle.drops.specs.Drop.{dropRoom}
 use Rattle.sending.specs.Answer.{sentHome}
 use Rattle.engine.specs.Step.{Outcome, outcome, stepOf}
 use Rattle.yard.specs.Walk.{Visit, visit, Walk, walkRows, walkOf, walkedOf}
-use Rattle.message.specs.Format.{standardSize}
+use Rattle.header.specs.Format.{standardSize}
 use Rattle.message.specs.Blocks.{standardCount}
 use Rattle.message.specs.Room.{isFull}
 use Rattle.message.proofs.Laws.{standard-blocks-count}

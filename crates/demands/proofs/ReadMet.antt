@@ -19,8 +19,8 @@ use Rattle.written.specs.declared.Block.{Block}
 use Rattle.forwarding.specs.Code.{codeNoSpace}
 use Rattle.response.specs.Fill.{blockOf}
 use Rattle.written.specs.Bytes.{blockBytes}
-use Rattle.message.specs.Format.{most, reply, standardSize, noteSize}
-use Rattle.message.specs.Header.{headerOf, retyped}
+use Rattle.header.specs.Format.{most, reply, standardSize, noteSize}
+use Rattle.header.specs.Header.{headerOf, retyped}
 use Rattle.message.specs.Blocks.{standardBlocks, rightForm}
 use Rattle.message.specs.Room.{Full, HasRoom}
 use Rattle.message.proofs.Laws.{Accepted, no-room-has-standard, sent-length, sent-header, sent-form, coded-length, coded-header, coded-form}

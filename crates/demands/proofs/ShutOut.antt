@@ -15,7 +15,7 @@ use Rattle.clock.specs.declared.Clock.{Clock}
 use Rattle.clock.specs.declared.Tick.{Tick}
 use Rattle.clock.specs.Clock.{lastTime, clockOf, issued}
 use Rattle.clock.specs.Readings.{allIssuesBy, times, Sound, lead}
-use Rattle.message.specs.Format.{most, codeOffset}
+use Rattle.header.specs.Format.{most, codeOffset}
 use Rattle.message.specs.Blocks.{standardBlocks}
 use Rattle.message.specs.Room.{HasRoom}
 use Rattle.drops.specs.Drop.{dropSheet, lastDrop}

@@ -18,7 +18,7 @@ use Rattle.wire.proofs.Laws.{splice-front}
 use Rattle.written.specs.declared.Block.{Block}
 use Rattle.forwarding.specs.Code.{codeNoSpace}
 use Rattle.written.specs.Bytes.{blockBytes}
-use Rattle.message.specs.Format.{most, codeOffset, noteSize}
+use Rattle.header.specs.Format.{most, codeOffset, noteSize}
 use Rattle.message.specs.Blocks.{lastCoded}
 use Rattle.drops.specs.Arrival.{arrival}
 use Rattle.drops.specs.Drop.{nearTtl}

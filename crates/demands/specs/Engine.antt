@@ -23,9 +23,9 @@ use Rattle.forwarding.specs.View.{addressOf}
 use Rattle.forwarding.specs.Code.{codeNoSpace, codes}
 use Rattle.response.specs.Fill.{upstreamOf, fillFor, endsFor}
 use Rattle.written.specs.Bytes.{blockBytes, noteBytes}
-use Rattle.message.specs.declared.Header.{Header}
-use Rattle.message.specs.Format.{request, reply, codeOffset}
-use Rattle.message.specs.Header.{headerOf}
+use Rattle.header.specs.declared.Header.{Header}
+use Rattle.header.specs.Format.{request, reply, codeOffset}
+use Rattle.header.specs.Header.{headerOf}
 use Rattle.message.specs.Blocks.{lastStandard}
 use Rattle.message.specs.Room.{Full, HasRoom, hopsUsed}
 use Rattle.drops.specs.Arrival.{Arrival, isQuery, routeFor}

@@ -8,7 +8,7 @@ use lib.ListN.{length, getD, set}
 use Rattle.written.specs.declared.Block.{Block}
 use Rattle.forwarding.specs.Code.{codeNoSpace}
 use Rattle.written.specs.Bytes.{blockBytes}
-use Rattle.message.specs.Format.{codeOffset}
+use Rattle.header.specs.Format.{codeOffset}
 use Rattle.message.specs.Room.{Full, HasRoom}
 use Rattle.reply.specs.declared.Standard.{Standard}
 use Rattle.reply.specs.Standard.{sBit, standardOf, noStandard}

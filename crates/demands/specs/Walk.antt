@@ -14,8 +14,8 @@ use Rattle.recent.specs.Entries.{empty}
 use Rattle.written.specs.declared.Block.{Block}
 use Rattle.forwarding.specs.Code.{codeNoSpace}
 use Rattle.written.specs.Bytes.{blockBytes}
-use Rattle.message.specs.Format.{most, codeOffset, noteSize}
-use Rattle.message.specs.Header.{headerOf}
+use Rattle.header.specs.Format.{most, codeOffset, noteSize}
+use Rattle.header.specs.Header.{headerOf}
 use Rattle.message.specs.Blocks.{standardCount, standardBlocks}
 use Rattle.message.specs.Room.{Full, HasRoom}
 use Rattle.drops.specs.Arrival.{arrival}

@@ -15,11 +15,12 @@ use Rattle.recent.specs.Layout.{wellFormed}
 use Rattle.recent.specs.Entries.{seenIn}
 use Rattle.sheet.specs.Sheet.{layoutOf}
 use Rattle.tables.specs.Tables.{holderOf}
-use Rattle.message.specs.Format.{noteSize}
-use Rattle.message.specs.Header.{headerOf}
+use Rattle.header.specs.Format.{noteSize}
+use Rattle.header.specs.Header.{headerOf}
 use Rattle.message.specs.Blocks.{standardCount}
 use Rattle.message.specs.Room.{isFull, hopsUsed}
-use Rattle.message.specs.Check.{headerRows, messageRows}
+use Rattle.header.specs.Rows.{headerRows}
+use Rattle.message.specs.Check.{messageRows}
 use Rattle.message.specs.Inside.{blocksSeen}
 use Rattle.drops.specs.declared.Verdict.{Verdict}
 use Rattle.drops.specs.Inside.{lentRows, dropVerdict, passVerdict, judgedOf, verdictOf}

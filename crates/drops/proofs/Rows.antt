@@ -14,19 +14,20 @@ use Rattle.tables.specs.Tables.{interfaceOf, routesOf, holderOf}
 use Rattle.route.specs.declared.Chosen.{Chosen}
 use Rattle.route.specs.Choice.{whichRoute}
 use Rattle.route.specs.LastHop.{properLastHop}
-use Rattle.message.specs.declared.Header.{Header}
+use Rattle.header.specs.declared.Header.{Header}
 use Rattle.message.specs.declared.Blocks.{Blocks}
 use Rattle.message.specs.declared.Checked.{Checked}
-use Rattle.message.specs.Header.{headerOf}
+use Rattle.header.specs.Header.{headerOf}
 use Rattle.message.specs.Blocks.{standardCount}
-use Rattle.message.specs.Check.{headerRows, messageRows}
+use Rattle.header.specs.Rows.{headerRows}
+use Rattle.message.specs.Check.{messageRows}
 use Rattle.message.specs.Inside.{acceptedMessage, checkOf, blocksSeen}
 use Rattle.message.proofs.Laws.{check-number, accepts-as}
 use Rattle.drops.specs.declared.Verdict.{Verdict}
 use Rattle.drops.specs.Arrival.{arrival, isQuery, routeFor, lastHopFor}
 use Rattle.rows.specs.Rows.{Row, byFirst, firstOf}
 use Rattle.rows.proofs.Laws.{given-alone, none-alone, given-by, none-by}
-use Rattle.message.specs.Format.{query}
+use Rattle.header.specs.Format.{query}
 use Rattle.drops.specs.Drop.{dropLastHop, isHeld, lendingRows, deliveryRows, routeRows, table}
 use Rattle.drops.specs.Inside.{sheetRows, dropVerdict, passVerdict, routedOf, judgedOf}
 use Rattle.format.specs.declared.Format.{Format}

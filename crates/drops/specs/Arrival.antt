@@ -8,8 +8,8 @@ use Rattle.tables.specs.Tables.{interfaceOf, routesOf}
 use Rattle.route.specs.Choice.{whichRoute}
 use Rattle.route.specs.LastHop.{properLastHop}
 use Rattle.route.specs.declared.Chosen.{Chosen}
-use Rattle.message.specs.declared.Header.{Header}
-use Rattle.message.specs.Format.{query, request}
+use Rattle.header.specs.declared.Header.{Header}
+use Rattle.header.specs.Format.{query, request}
 use Rattle.format.specs.declared.Format.{Format}
 
 -- a message, and what the host tells of it: its destination, the number of the receiving interface, the TTL

@@ -13,9 +13,9 @@ use Rattle.tables.specs.declared.Holding.{Holding}
 use Rattle.tables.specs.declared.Holding.the-variants.{At, Nowhere}
 use Rattle.sheet.specs.Sheet.{layoutOf}
 use Rattle.tables.specs.Tables.{holderOf}
-use Rattle.message.specs.declared.Header.{Header}
-use Rattle.message.specs.Format.{noteSize}
-use Rattle.message.specs.Header.{headerOf}
+use Rattle.header.specs.declared.Header.{Header}
+use Rattle.header.specs.Format.{noteSize}
+use Rattle.header.specs.Header.{headerOf}
 use Rattle.message.specs.Room.{hopsUsed}
 use Rattle.message.specs.Check.{messageRows}
 use Rattle.drops.specs.Arrival.{Arrival, isQuery, isRequest, lastHopFor}

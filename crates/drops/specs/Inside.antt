@@ -8,10 +8,10 @@ use Rattle.rows.specs.Rows.{Row, byFirst}
 use Rattle.sheet.specs.declared.Layout.{Layout}
 use Rattle.sheet.specs.Sheet.{noLayout}
 use Rattle.route.specs.declared.Chosen.the-variants.{Nothing}
-use Rattle.message.specs.declared.Header.{Header}
+use Rattle.header.specs.declared.Header.{Header}
 use Rattle.message.specs.declared.Blocks.{Blocks}
-use Rattle.message.specs.Format.{noteSize}
-use Rattle.message.specs.Header.{headerOf}
+use Rattle.header.specs.Format.{noteSize}
+use Rattle.header.specs.Header.{headerOf}
 use Rattle.message.specs.Inside.{noHeader, noBlocks, blocksSeen}
 use Rattle.drops.specs.declared.Verdict.{Verdict}
 use Rattle.drops.specs.Arrival.{Arrival, isQuery, routeFor, lastHopFor}

@@ -1,7 +1,7 @@
 // Whether a router drops what arrives: the drop table, and what is found out while it is tried.
 use format::Format;
+use header::Header;
 use message::Blocks;
-use message::Header;
 use route::Chosen;
 use sheet::Layout;
 ghost use mathlib.Core.Path.{_≡_};
@@ -53,7 +53,7 @@ pub struct Verdict {
 pub fn lent_row(output: usize, note: usize, recent: &[u8]) -> u32
     ensures { λ r. ⌜ r ≡ firstOf (lentRows output note (now (recent .entry))) ⌝ }
 {
-    if (output < format::OUTPUT_SIZE) | (note < message::NOTE_SIZE) {
+    if (output < format::OUTPUT_SIZE) | (note < header::NOTE_SIZE) {
         return DROP_ROOM;
     }
     if !recent::check(recent) {
@@ -102,7 +102,7 @@ fn is_seen(recent: &[u8], h: Header) -> bool
     requires { ⌜ Formed (now recent) ⌝ }
     ensures { λ r. ⌜ r ≡ (isQuery h && seenIn (now (recent .entry)) (h .client) (h .id)) ⌝ }
 {
-    if h.kind != message::QUERY {
+    if h.kind != header::QUERY {
         return false;
     }
     recent::seen(recent, h.client, h.id)
@@ -114,7 +114,7 @@ fn is_proper(f: Format, sheet: &[u8], layout: Layout, chosen: Chosen, h: Header)
     requires { ⌜ layout ≡ layoutOf f (now sheet) ⌝ }
     ensures { λ r. ⌜ r ≡ (isQuery h && properLastHop (interfaceOf f (now (sheet .entry))) (layoutOf f (now (sheet .entry)) .interfaces) chosen (h .client)) ⌝ }
 {
-    if h.kind == message::QUERY {
+    if h.kind == header::QUERY {
         return route::last_hop(f, sheet, layout, chosen, h.client);
     }
     false
@@ -139,10 +139,10 @@ fn delivery_row(
     if !is_delivered(f, sheet, layout.interfaces, destination) {
         return DROP_DEST;
     }
-    if (h.kind == message::REQUEST) & (ttl != NEAR_TTL) {
+    if (h.kind == header::REQUEST) & (ttl != NEAR_TTL) {
         return DROP_NEAR;
     }
-    if (h.kind == message::REQUEST) & (h.hops as usize <= used) {
+    if (h.kind == header::REQUEST) & (h.hops as usize <= used) {
         return DROP_COUNT;
     }
     if is_seen(recent, h) {
@@ -155,7 +155,7 @@ fn delivery_row(
 fn route_row(proper: bool, h: Header, destination: u32) -> u32
     ensures { λ r. ⌜ r ≡ firstOf (routeRows proper h destination) ⌝ }
 {
-    if (h.kind == message::QUERY) & address::link_scoped(destination) & !proper {
+    if (h.kind == header::QUERY) & address::link_scoped(destination) & !proper {
         return DROP_LASTHOP;
     }
     0

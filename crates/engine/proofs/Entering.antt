@@ -4,8 +4,8 @@ use mathlib.Core.List.{List}
 use mathlib.Core.Path.{_≡_}
 use borrow.Author.Tests.{eq-eqb, ne-eqb}
 use Rattle.recent.specs.Entries.{enteredIn}
-use Rattle.message.specs.declared.Header.{Header}
-use Rattle.message.specs.Format.{query}
+use Rattle.header.specs.declared.Header.{Header}
+use Rattle.header.specs.Format.{query}
 use Rattle.engine.specs.Step.{recentAfter}
 
 -- a Query is entered, anything else is not

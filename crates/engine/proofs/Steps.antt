@@ -24,8 +24,8 @@ use Rattle.forwarding.specs.declared.Incoming.the-variants.{Known, Unknown}
 use Rattle.route_entry.specs.Route.{unknown}
 use Rattle.rows.proofs.Laws.{cond-cases}
 use Rattle.forwarding.specs.declared.View.{View}
-use Rattle.message.specs.declared.Header.{Header}
-use Rattle.message.specs.Header.{headerOf}
+use Rattle.header.specs.declared.Header.{Header}
+use Rattle.header.specs.Header.{headerOf}
 use Rattle.message.specs.Blocks.{standardCount, lastStandard}
 use Rattle.message.specs.Inside.{blocksSeen}
 use Rattle.message.proofs.Laws.{no-room-has-standard, last-high, standards-few}

@@ -4,7 +4,7 @@ use mathlib.Core.List.{List}
 use mathlib.Core.Path.{_≡_}
 use lib.ListN.{length}
 use Rattle.rows.proofs.Laws.{none-is, first-is}
-use Rattle.message.specs.Header.{headerOf}
+use Rattle.header.specs.Header.{headerOf}
 use Rattle.drops.specs.Arrival.{Arrival}
 use Rattle.drops.specs.Drop.{table}
 use Rattle.rows.specs.Rows.{NoneApplies, IsFirst}

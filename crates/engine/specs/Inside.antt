@@ -8,8 +8,8 @@ use Rattle.recent.specs.Inside.{Formed}
 use Rattle.sheet.specs.Sheet.{layoutOf}
 use Rattle.tables.specs.Tables.{interfaceOf}
 use Rattle.response.specs.Inside.{RouteFits}
-use Rattle.message.specs.Format.{noteSize}
-use Rattle.message.specs.Header.{headerOf}
+use Rattle.header.specs.Format.{noteSize}
+use Rattle.header.specs.Header.{headerOf}
 use Rattle.message.specs.Blocks.{lastStandard}
 use Rattle.message.specs.Inside.{blocksSeen}
 use Rattle.view.specs.Inside.{RouteThere}

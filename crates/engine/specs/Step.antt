@@ -8,8 +8,8 @@ use Rattle.rows.specs.Rows.{byFirst}
 use Rattle.wire.specs.Parts.{splice}
 use Rattle.recent.specs.Entries.{enteredIn}
 use Rattle.written.specs.Bytes.{noteBytes}
-use Rattle.message.specs.declared.Header.{Header}
-use Rattle.message.specs.Header.{headerOf}
+use Rattle.header.specs.declared.Header.{Header}
+use Rattle.header.specs.Header.{headerOf}
 use Rattle.drops.specs.Arrival.{Arrival, isQuery}
 use Rattle.drops.specs.Drop.{table}
 use Rattle.sending.specs.Answer.{Sent, sentBy}

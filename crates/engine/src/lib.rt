@@ -1,7 +1,7 @@
 // One router's step: what arrives is dropped by its number, or answered by the Request sent on or the Reply sent home.
 use drops::Verdict;
 use format::Format;
-use message::Header;
+use header::Header;
 use sheet::Layout;
 ghost use mathlib.Core.Path.{_≡_};
 ghost use lib.ListN.{length};
@@ -20,7 +20,7 @@ fn write_recent(h: Header, recent: &mut [u8])
     requires { ⌜ Formed (now recent) ⌝ }
     ensures { λ _. ⌜ now (recent .exit) ≡ recentAfter h (now (recent .entry)) ⌝ }
 {
-    if h.kind == message::QUERY {
+    if h.kind == header::QUERY {
         recent::enter(recent, h.client, h.id);
     }
 }

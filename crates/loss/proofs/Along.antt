@@ -8,7 +8,7 @@ use native.Mathlib.Omega.{arith}
 use borrow.Author.Tests.{lt-ltb, ltb-true, eqb-true, eqb-false, not-true, not-false}
 use lib.Dec.{ltb, eqb}
 use lib.ListN.{length}
-use Rattle.message.specs.Format.{headerSize, standardSize}
+use Rattle.header.specs.Format.{headerSize, standardSize}
 use Rattle.message.specs.Inside.{standardsFrom}
 use Rattle.rows.proofs.Laws.{both-true, both-of, decided}
 use Rattle.reply.specs.Standard.{standardIn}

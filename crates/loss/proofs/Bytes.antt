@@ -7,10 +7,10 @@ use lib.ListN.{length, replicate}
 use Rattle.wire.specs.Numbers.{bytes, bytes64}
 use Rattle.wire.specs.Parts.{splice}
 use Rattle.wire.proofs.Behind.{four-written}
-use Rattle.loss.specs.declared.Link.{Link}
-use Rattle.loss.specs.declared.Tally.{Tally}
-use Rattle.loss.specs.declared.Link.the-variants.{Counted, NotCounted, Fallen, Surplus}
-use Rattle.loss.specs.Link.{verdictOf, tallyOf, linkBytes}
+use Rattle.link.specs.declared.Link.{Link}
+use Rattle.link.specs.declared.Tally.{Tally}
+use Rattle.link.specs.declared.Link.the-variants.{Counted, NotCounted, Fallen, Surplus}
+use Rattle.link.specs.Link.{verdictOf, tallyOf, linkBytes}
 use Rattle.loss.specs.Inside.{linkSize}
 
 -- the first of 8 bytes, as a number's

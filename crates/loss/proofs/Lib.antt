@@ -2,11 +2,9 @@
 pub mod Laws
 pub mod Determined
 -- Where they are proved.
-mod Naming
 mod Read
 mod Bytes
 mod Along
 mod Rows
 mod Linking
 mod Links
-mod Signed

@@ -11,7 +11,7 @@ use lib.Dec.{ltb}
 use lib.ListN.{length, take, length-append, take-append-drop}
 use Rattle.wire.specs.Parts.{splice}
 use Rattle.wire.proofs.Laws.{length-bytes, length-splice, splice-join}
-use Rattle.message.specs.Format.{headerSize, standardSize, most}
+use Rattle.header.specs.Format.{headerSize, standardSize, most}
 use Rattle.message.specs.Blocks.{standards}
 use Rattle.message.specs.Inside.{standardsFrom}
 use Rattle.message.proofs.Laws.{all-standards, standards-fit}
@@ -21,8 +21,8 @@ use Rattle.reply.specs.Standard.{standardIn}
 use Rattle.reply.specs.Reader.{standardsIn}
 use Rattle.reply.specs.Inside.{firstOr, Settled, FillsFrom}
 use Rattle.reply.proofs.Laws.{leftFrom, left-all, settled, settled-same, settled-forth, settled-over, settled-inside, settled-more, fills-behind}
-use Rattle.loss.specs.declared.Link.{Link}
-use Rattle.loss.specs.Link.{tallyOf, linkBytes}
+use Rattle.link.specs.declared.Link.{Link}
+use Rattle.link.specs.Link.{tallyOf, linkBytes}
 use Rattle.loss.specs.Loss.{linksFrom, linksOf, linksIn, linksBytes, linksSize}
 use Rattle.loss.specs.Inside.{linkSize, Linked, linkIn}
 use Rattle.format.specs.Sizes.{ipv4, ipv4-sound}

@@ -11,11 +11,11 @@ use Rattle.rows.specs.Rows.{NoneApplies, IsFirst, byFirst, firstOf}
 use Rattle.rows.proofs.Laws.{neither-of, both-of, first-is, none-is}
 use Rattle.reply.specs.declared.Standard.{Standard}
 use Rattle.reply.specs.Reader.{standardsIn}
-use Rattle.loss.specs.declared.Count.{Count}
-use Rattle.loss.specs.declared.Link.{Link}
-use Rattle.loss.specs.declared.Link.the-variants.{NotCounted, Fallen, Surplus}
+use Rattle.link.specs.declared.Count.{Count}
+use Rattle.link.specs.declared.Link.{Link}
+use Rattle.link.specs.declared.Link.the-variants.{NotCounted, Fallen, Surplus}
 use Rattle.loss.specs.Path.{sameRouter, samePath}
-use Rattle.loss.specs.Link.{allOnes, notCounted, fallen, surplus, sentOf, receivedOf, names, named, counted, linkOf, verdictOf, tallyOf, countOf}
+use Rattle.link.specs.Link.{allOnes, notCounted, fallen, surplus, sentOf, receivedOf, names, named, counted, linkOf, verdictOf, tallyOf, countOf}
 use Rattle.loss.specs.Loss.{linksFrom, linksOf, linksIn}
 use Rattle.loss.specs.Risen.{Risen, TurnFallen}
 

@@ -6,10 +6,10 @@ use mathlib.Core.List.{List}
 use lib.Dec.{eqb, lit≤}
 use Rattle.wire.specs.Numbers.{be32, be64}
 use Rattle.wire.proofs.Laws.{be-part}
-use Rattle.message.specs.Format.{standardSize, outgoingOffset, upstreamOffset}
+use Rattle.header.specs.Format.{standardSize, outgoingOffset, upstreamOffset}
 use Rattle.reply.specs.Standard.{inputOffset, outputOffset, standardOf, standardIn}
 use Rattle.loss.specs.Path.{sameRouter}
-use Rattle.loss.specs.Link.{countOf}
+use Rattle.link.specs.Link.{countOf}
 
 module _ (s : List ℕ) where
   pub count-read : (near far sent received : ℕ) → sent ≡ be64 s (far + outputOffset) → received ≡ be64 s (near + inputOffset)

@@ -8,7 +8,7 @@ use lib.ListN.{length}
 use Rattle.rows.specs.Rows.{Row, row, byFirst, firstOf}
 use Rattle.rows.proofs.Laws.{given-alone, none-alone, given-by, none-by, zero-none, none-split}
 use Rattle.wire.specs.Parts.{splice}
-use Rattle.message.specs.Format.{headerSize, most}
+use Rattle.header.specs.Format.{headerSize, most}
 use Rattle.reply.specs.Inside.{FillsFrom}
 use Rattle.reply.specs.Check.{replyRows, Readable}
 use Rattle.reply.specs.Reader.{standardsIn}

@@ -3,12 +3,12 @@
 use Prim.Native.Nat.{ℕ, _≤_, _<_}
 use mathlib.Core.List.{List}
 use lib.ListN.{length}
-use Rattle.message.specs.Format.{headerSize}
+use Rattle.header.specs.Format.{headerSize}
 use Rattle.message.specs.Blocks.{standardCount}
 use Rattle.reply.specs.Standard.{standardIn}
 use Rattle.reply.specs.Inside.{FillsFrom}
-use Rattle.loss.specs.declared.Link.{Link}
-use Rattle.loss.specs.Link.{countOf, linkOf}
+use Rattle.link.specs.declared.Link.{Link}
+use Rattle.link.specs.Link.{countOf, linkOf}
 use Rattle.format.specs.Sizes.{ipv4}
 
 -- the bytes of a link

@@ -7,9 +7,9 @@ use Rattle.rows.specs.Rows.{Row, row, byFirst}
 use Rattle.wire.specs.Parts.{splice}
 use Rattle.reply.specs.declared.Standard.{Standard}
 use Rattle.reply.specs.Reader.{standardsIn}
-use Rattle.loss.specs.declared.Link.{Link}
+use Rattle.link.specs.declared.Link.{Link}
 use Rattle.loss.specs.Path.{pairRows}
-use Rattle.loss.specs.Link.{countOf, linkOf, linkBytes}
+use Rattle.link.specs.Link.{countOf, linkOf, linkBytes}
 
 -- the links from a block of each Reply on, by the blocks behind them
 unfoldable pub linksFrom : Standard → Standard → List Standard → List Standard → List Link

@@ -2,9 +2,9 @@
 use Prim.Native.Nat.{_<_}
 use mathlib.Core.List.{List, [], _∷_}
 use mathlib.Core.Path.{_≡_}
-use Rattle.loss.specs.declared.Link.{Link}
-use Rattle.loss.specs.declared.Link.the-variants.{Fallen}
-use Rattle.loss.specs.Link.{tallyOf}
+use Rattle.link.specs.declared.Link.{Link}
+use Rattle.link.specs.declared.Link.the-variants.{Fallen}
+use Rattle.link.specs.Link.{tallyOf}
 
 -- a link that is counted, with a rise: received is at most sent, so it is one of sent
 abbrev pub Risen : Link → Type 0

@@ -11,12 +11,13 @@ use lib.Dec.{ltb, eqb}
 use lib.ListN.{length}
 use Rattle.address.specs.Addresses.{unicast}
 use Rattle.rows.proofs.Laws.{neither-of, both-of, one-of, none-is, number-kept, zero-none, appliesAt, none-at}
-use Rattle.message.specs.declared.Header.{Header}
+use Rattle.header.specs.declared.Header.{Header}
 use Rattle.message.specs.declared.Checked.{Checked}
-use Rattle.message.specs.Format.{query, request}
-use Rattle.message.specs.Header.{headerOf, queryOrRequest, rightLength, rightGroup, rightSource, namesNothing, rightClient}
+use Rattle.header.specs.Format.{query, request}
+use Rattle.header.specs.Header.{headerOf, queryOrRequest, rightLength, rightGroup, rightSource, namesNothing, rightClient}
 use Rattle.message.specs.Blocks.{Placed, blocksOf, standardPlaces, standards, standardCount, fillsMessage, standardFirst, requestForm, rightForm}
-use Rattle.message.specs.Check.{dropSize, dropType, dropHeader, dropHops, dropGroup, dropSource, dropPair, dropClient, dropBlocks, headerRows, messageRows}
+use Rattle.message.specs.Check.{dropSize, dropBlocks, messageRows}
+use Rattle.header.specs.Rows.{dropType, dropHeader, dropHops, dropGroup, dropSource, dropPair, dropClient, headerRows}
 use Rattle.message.specs.Inside.{refusedMessage, acceptedMessage, checkOf}
 use Rattle.rows.specs.Rows.{NoneApplies, firstOf}
 use Rattle.message.proofs.Turns.{standard-more}

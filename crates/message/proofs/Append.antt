@@ -13,8 +13,8 @@ use lib.ListN.{length, drop, length-append, length-drop, List·getD-append}
 use lib.Seq.{drop-append-le}
 use Rattle.wire.specs.Numbers.{byteAt, be16}
 use Rattle.wire.proofs.Laws.{be-first}
-use Rattle.message.specs.Format.{query, standard}
-use Rattle.message.specs.Header.{headerOf}
+use Rattle.header.specs.Format.{query, standard}
+use Rattle.header.specs.Header.{headerOf}
 use Rattle.message.specs.Inside.{StandardBlock}
 use Rattle.message.specs.Blocks.{Placed, begins, rightSize, fitsIn, blocksFrom, blocksOf, totalSize, standardPlaces, standards, standardCount, blocksEnd, standardFirst, fillsMessage, requestForm, rightForm}
 use Rattle.rows.proofs.Laws.{decided, both-of}

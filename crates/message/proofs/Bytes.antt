@@ -12,7 +12,7 @@ use lib.Seq.{take-all, take-append-le, drop-append-le, drop-append-seam, drop-se
 use Rattle.wire.specs.Numbers.{byteAt, be16}
 use Rattle.wire.specs.Parts.{part}
 use Rattle.rows.proofs.Laws.{decided}
-use Rattle.message.specs.Format.{standard}
+use Rattle.header.specs.Format.{standard}
 use Rattle.message.specs.Inside.{standardAt, StandardBlock}
 use Rattle.message.specs.Blocks.{blocksFrom, blocksOf, standardPlaces, lastOr, standards, standardCount, lastStandard, standardBlocks, lastCoded}
 use Rattle.message.proofs.Cut.{begun, by-blocks}

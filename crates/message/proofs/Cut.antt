@@ -10,7 +10,7 @@ use lib.Dec.{leb, eqb}
 use lib.ListN.{length, drop, length-drop}
 use Rattle.wire.specs.Numbers.{byteAt, be16}
 use Rattle.rows.proofs.Laws.{decided, both-of, one-of}
-use Rattle.message.specs.Format.{standard, augmented}
+use Rattle.header.specs.Format.{standard, augmented}
 use Rattle.message.specs.Blocks.{Placed, placedAt, begins, rightSize, fitsIn, blocksBy, blocksFrom}
 use Rattle.format.specs.declared.Format.{Format}
 use Rattle.format.specs.Sizes.{Sound, augmentedLeast}

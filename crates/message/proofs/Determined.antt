@@ -1,15 +1,11 @@
 -- Two answers that meet what a function ensures are equal.
 use mathlib.Core.Path.{_≡_}
 use Rattle.rows.proofs.Laws.{both-are}
-use Rattle.message.proofs.header_of.Reads as header-of
 use Rattle.message.proofs.block_at.Reads as block-at
 use Rattle.message.proofs.blocks_of.Reads as blocks-of
 use Rattle.message.proofs.right_form.Reads as right-form
 use Rattle.message.proofs.check.Reads as check
 use Rattle.message.proofs.is_full.Reads as is-full
-
-pub header-of-determined : (κs : _) (a : _) (x y : _) (e f : _) → header-of.Post κs a x e → header-of.Post κs a y f → x ≡ y
-header-of-determined κs a x y e f = both-are
 
 pub block-at-determined : (κs : _) (a : _) (x y : _) (e f : _) → block-at.Post κs a x e → block-at.Post κs a y f → x ≡ y
 block-at-determined κs a x y e f = both-are

@@ -8,7 +8,7 @@ use lib.Dec.{lit≤}
 use Rattle.wire.specs.Numbers.{byteAt, be}
 use Rattle.wire.proofs.Laws.{be-same}
 use Rattle.format.specs.Sizes.{headerFields}
-use Rattle.message.specs.Header.{headerOf, retyped}
+use Rattle.header.specs.Header.{headerOf, retyped}
 
 module _ (s t : List ℕ) where
   pub same-but-type : ((j : ℕ) → 0 < j → j < headerFields → byteAt t j ≡ byteAt s j) → headerOf t ≡ retyped (byteAt t 0) (headerOf s)

@@ -14,7 +14,7 @@ use Rattle.wire.specs.Numbers.{byteAt, be16}
 use Rattle.rows.proofs.Laws.{decided, both-of, one-of, cond-cases, parts}
 use Rattle.wire.proofs.Laws.{be-drop}
 use Rattle.message.specs.declared.BlockHead.{BlockHead}
-use Rattle.message.specs.Format.{standard, augmented, augmentedUnit}
+use Rattle.header.specs.Format.{standard, augmented, augmentedUnit}
 use Rattle.message.specs.Blocks.{begins, rightSize, fitsIn}
 use Rattle.message.specs.Inside.{noBlock, isStandard, augmentedSize, blockAt}
 use Rattle.message.proofs.Cut.{too-short}

@@ -11,13 +11,14 @@ use lib.Dec.{ltb, eqb}
 use lib.ListN.{length, drop, length-drop}
 use lib.Seq.{getD-drop}
 use Rattle.wire.specs.Numbers.{byteAt}
-use Rattle.message.specs.declared.Header.{Header}
+use Rattle.header.specs.declared.Header.{Header}
 use Rattle.message.specs.declared.Blocks.{Blocks}
 use Rattle.message.specs.declared.Checked.{Checked}
-use Rattle.message.specs.Format.{query}
-use Rattle.message.specs.Header.{headerOf}
+use Rattle.header.specs.Format.{query}
+use Rattle.header.specs.Header.{headerOf}
 use Rattle.message.specs.Blocks.{Placed, begins, blocksOf, totalSize, blocksEnd, standardFirst, fillsMessage, rightForm}
-use Rattle.message.specs.Check.{dropSize, dropBlocks, headerRows, messageRows}
+use Rattle.message.specs.Check.{dropSize, dropBlocks, messageRows}
+use Rattle.header.specs.Rows.{headerRows}
 use Rattle.message.specs.Inside.{blocksSeen, refusedMessage, acceptedMessage, checkOf}
 use Rattle.rows.specs.Rows.{Row, row, byFirst, firstOf}
 use Rattle.rows.proofs.Laws.{given-by, none-by, decided, same-flag, one-of}

@@ -9,8 +9,8 @@ use lib.ListN.{length, set, length-append, length-set}
 use lib.Seq.{getD-set-same, getD-set-other}
 use borrow.Author.Tests.{ne-eqb}
 use Rattle.wire.specs.Numbers.{byteAt}
-use Rattle.message.specs.Format.{query, request}
-use Rattle.message.specs.Header.{headerOf, retyped}
+use Rattle.header.specs.Format.{query, request}
+use Rattle.header.specs.Header.{headerOf, retyped}
 use Rattle.message.specs.Inside.{StandardBlock}
 use Rattle.message.specs.Blocks.{blocksOf, lastOr, standards, standardCount, lastStandard, rightForm}
 use Rattle.message.proofs.Append.{append-standards, append-count, right-form-fills, append-right-form, append-header, query-alone, request-formed}

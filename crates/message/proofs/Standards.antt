@@ -11,7 +11,7 @@ use lib.Dec.{eqb}
 use lib.ListN.{length, getD, drop, length-drop}
 use lib.Seq.{drop-drop}
 use Rattle.wire.specs.Numbers.{byteAt, be16}
-use Rattle.message.specs.Format.{standard}
+use Rattle.header.specs.Format.{standard}
 use Rattle.message.specs.declared.BlockHead.{BlockHead}
 use Rattle.message.specs.Inside.{blockAt, standardsFrom, standardAt}
 use Rattle.message.specs.Blocks.{Placed, placedAt, begins, blocksFrom, blocksOf, totalSize, standardPlaces, lastOr, standards, standardCount, lastStandard}

@@ -15,7 +15,7 @@ use Rattle.wire.specs.Numbers.{byteAt, be16}
 use Rattle.rows.proofs.Laws.{decided}
 use Rattle.message.specs.declared.Blocks.{Blocks}
 use Rattle.message.specs.declared.BlockHead.{BlockHead}
-use Rattle.message.specs.Format.{standard, augmented}
+use Rattle.header.specs.Format.{standard, augmented}
 use Rattle.message.specs.Blocks.{Placed, begins, blocksFrom, blocksOf, totalSize, standardPlaces, lastOr, standards, blocksEnd}
 use Rattle.message.specs.Inside.{noBlock, isStandard, augmentedSize, blockAt, blocksSeen}
 use Rattle.message.proofs.Cut.{begun, no-blocks, block-first}

@@ -10,8 +10,8 @@ use lib.ListN.{length, drop, set, length-set}
 use lib.Seq.{getD-set-same, getD-set-other, drop-set-lt, drop-set-add}
 use Rattle.wire.specs.Numbers.{byteAt, be, be16}
 use Rattle.wire.proofs.Laws.{be-same}
-use Rattle.message.specs.Format.{query, standard}
-use Rattle.message.specs.Header.{headerOf, retyped}
+use Rattle.header.specs.Format.{query, standard}
+use Rattle.header.specs.Header.{headerOf, retyped}
 use Rattle.message.specs.Inside.{standardAt}
 use Rattle.message.specs.Blocks.{placedAt, begins, blocksFrom, blocksOf, standards, standardCount, lastStandard, blocksEnd, fillsMessage, requestForm, rightForm}
 use Rattle.message.proofs.Fields.{same-but-type}

@@ -7,7 +7,7 @@ use lib.Dec.{leb, eqb}
 use lib.ListN.{length, drop, set}
 use Rattle.wire.specs.Numbers.{byteAt, be16}
 use Rattle.wire.specs.Parts.{part}
-use Rattle.message.specs.Format.{query, standard, augmented, augmentedUnit}
+use Rattle.header.specs.Format.{query, standard, augmented, augmentedUnit}
 use Rattle.format.specs.Sizes.{augmentedLeast}
 use Rattle.format.specs.declared.Format.{Format}
 

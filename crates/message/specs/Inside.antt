@@ -8,12 +8,12 @@ use lib.Dec.{eqb}
 use lib.ListN.{length, getD, drop}
 use Rattle.wire.specs.Numbers.{byteAt, be16}
 use Rattle.rows.specs.Rows.{byFirst}
-use Rattle.message.specs.declared.Header.{Header}
+use Rattle.header.specs.declared.Header.{Header}
 use Rattle.message.specs.declared.Blocks.{Blocks}
 use Rattle.message.specs.declared.BlockHead.{BlockHead}
 use Rattle.message.specs.declared.Checked.{Checked}
-use Rattle.message.specs.Format.{standard, augmented}
-use Rattle.message.specs.Header.{headerOf}
+use Rattle.header.specs.Format.{standard, augmented}
+use Rattle.header.specs.Header.{headerOf}
 use Rattle.message.specs.Blocks.{begins, blocksFrom, standardPlaces, standards, blocksEnd, standardCount, lastStandard}
 use Rattle.message.specs.Check.{messageRows}
 use Rattle.format.specs.declared.Format.{Format}

@@ -1,6 +1,4 @@
--- Messages: their format, the header, the blocks behind it, and the rules by which a message is accepted.
-pub mod Format
-pub mod Header
+-- Messages: the blocks behind the header, and the rules by which a message is accepted.
 pub mod Blocks
 pub mod Room
 pub mod Check

@@ -5,7 +5,7 @@ use mathlib.Core.List.{List}
 use lib.Dec.{ltb}
 use lib.ListN.{length}
 use Rattle.format.specs.declared.Format.{Format}
-use Rattle.message.specs.Header.{headerOf}
+use Rattle.header.specs.Header.{headerOf}
 use Rattle.message.specs.Blocks.{standardCount}
 
 -- with one block more it would pass the room

@@ -1,33 +1,13 @@
-// Messages as they arrive: the header read, the blocks walked once, and every rule checked; all by the sizes of a format.
+// Messages as they arrive: the blocks walked once, and every rule checked; all by the sizes of a format.
 use format::Format;
+use header::Header;
 ghost use mathlib.Core.Path.{_≡_};
-ghost use mathlib.Core.Bool.{cond};
 ghost use Prim.Native.Nat.{_+_, _≤_};
 ghost use lib.Dec.{ltb};
 ghost use lib.ListN.{length};
-ghost use Rattle.format.specs.Sizes.{Sound, headerFields, outputSize, roomOf};
-ghost use Rattle.message.specs.Header.{headerOf};
+ghost use Rattle.format.specs.Sizes.{Sound, outputSize, roomOf};
 ghost use Rattle.message.specs.Blocks.{rightForm, blocksEnd};
-ghost use Rattle.rows.specs.Rows.{firstOf};
-ghost use Rattle.message.specs.Check.{headerRows};
 ghost use Rattle.message.specs.Inside.{isStandard, augmentedSize, blockAt, blocksSeen, refusedMessage, checkOf};
-
-pub const QUERY: u8 = 1;
-
-pub const REQUEST: u8 = 2;
-
-pub const REPLY: u8 = 3;
-
-pub const STANDARD: u8 = 4;
-
-const AUGMENTED: u8 = 5;
-
-// The places of the incoming, the outgoing and the upstream address in a Standard Response Block.
-pub const INCOMING_OFFSET: usize = 8;
-
-pub const OUTGOING_OFFSET: usize = 12;
-
-pub const UPSTREAM_OFFSET: usize = 16;
 
 const AUGMENTED_LEAST: usize = 8;
 
@@ -36,39 +16,10 @@ const AUGMENTED_UNIT: usize = 4;
 // Bytes of the IP and UDP headers.
 const IP_AND_UDP: usize = 28;
 
-// Bytes of the answer record that goes with a message sent.
-pub const NOTE_SIZE: usize = 16;
-
 // The drop numbers of a message by itself.
 pub const DROP_SIZE: u32 = 5;
 
-const DROP_TYPE: u32 = 6;
-
-pub const DROP_HEADER: u32 = 7;
-
-const DROP_HOPS: u32 = 8;
-
-const DROP_GROUP: u32 = 9;
-
-const DROP_SOURCE: u32 = 10;
-
-const DROP_PAIR: u32 = 11;
-
-const DROP_CLIENT: u32 = 12;
-
 pub const DROP_BLOCKS: u32 = 13;
-
-// The header of a message. `kind` is its type, `group` the multicast address.
-pub struct Header {
-    pub kind: u8,
-    pub length: u16,
-    pub hops: u8,
-    pub group: u32,
-    pub source: u32,
-    pub client: u32,
-    pub id: u16,
-    pub port: u16,
-}
 
 // The type and the whole length of a block; zeros where there is none.
 pub struct BlockHead {
@@ -90,55 +41,6 @@ pub struct Checked {
     pub blocks: Blocks,
 }
 
-// The header of a message.
-pub fn header_of(s: &[u8]) -> Header
-    requires { ⌜ headerFields ≤ length (now s) ⌝ }
-    ensures { λ r. ⌜ r ≡ headerOf (now (s .entry)) ⌝ }
-{
-    Header {
-        kind: s[0],
-        length: wire::be16(s, 1),
-        hops: s[3],
-        group: wire::be32(s, 4),
-        source: wire::be32(s, 8),
-        client: wire::be32(s, 12),
-        id: wire::be16(s, 16),
-        port: wire::be16(s, 18),
-    }
-}
-
-// A row of the drop table: its number where it applies, else what the rows after it give.
-fn row(applies: bool, number: u32, after: u32) -> u32
-    ensures { λ r. ⌜ r ≡ cond applies number after ⌝ }
-{
-    if applies { number } else { after }
-}
-
-// The first of the rows on a header, 6 to 12, that applies, or 0. The last row comes first here: each is handed what the rows
-// after it give.
-fn header_number(f: Format, h: Header) -> u32
-    requires { ⌜ Sound f ⌝ }
-    ensures { λ r. ⌜ r ≡ firstOf (headerRows f h) ⌝ }
-{
-    let no_group = address::all_ones(h.group);
-    let no_source = address::all_ones(h.source);
-    let client = row(
-        !(address::unicast(h.client) & (h.port != 0)),
-        DROP_CLIENT,
-        0,
-    );
-    let pair = row(no_group & no_source, DROP_PAIR, client);
-    let source = row(!(address::unicast(h.source) | no_source), DROP_SOURCE, pair);
-    let group = row(
-        !(address::multicast(h.group) | no_group),
-        DROP_GROUP,
-        source,
-    );
-    let hops = row(h.hops == 0, DROP_HOPS, group);
-    let size = row(h.length != f.header as u16, DROP_HEADER, hops);
-    row(!((h.kind == QUERY) | (h.kind == REQUEST)), DROP_TYPE, size)
-}
-
 // Whether a Standard Response Block begins at a place.
 fn standard_at(f: Format, s: &[u8], at: usize) -> bool
     requires { ⌜ Sound f ⌝ }
@@ -148,7 +50,7 @@ fn standard_at(f: Format, s: &[u8], at: usize) -> bool
     if s.len() - at < f.block {
         return false;
     }
-    (s[at] == STANDARD) & (wire::be16(s, at + 1) == f.block as u16)
+    (s[at] == header::STANDARD) & (wire::be16(s, at + 1) == f.block as u16)
 }
 
 // The length of the Augmented Response Block that begins at a place; 0 where none does.
@@ -162,7 +64,7 @@ fn augmented_at(f: Format, s: &[u8], at: usize) -> usize
         return 0;
     }
     let size = wire::be16(s, at + 1) as usize;
-    let fits = (s[at] == AUGMENTED)
+    let fits = (s[at] == header::AUGMENTED)
         & (AUGMENTED_LEAST <= size)
         & (size % AUGMENTED_UNIT == 0)
         & (size <= left);
@@ -180,7 +82,7 @@ pub fn block_at(f: Format, s: &[u8], at: usize) -> BlockHead
 {
     if standard_at(f, s, at) {
         return BlockHead {
-            kind: STANDARD,
+            kind: header::STANDARD,
             size: f.block,
         };
     }
@@ -189,7 +91,7 @@ pub fn block_at(f: Format, s: &[u8], at: usize) -> BlockHead
         return BlockHead { kind: 0, size: 0 };
     }
     BlockHead {
-        kind: AUGMENTED,
+        kind: header::AUGMENTED,
         size,
     }
 }
@@ -230,13 +132,13 @@ pub fn right_form(f: Format, s: &[u8], end: usize) -> bool
     ensures { λ r. ⌜ r ≡ rightForm f (now (s .entry)) ⌝ }
 {
     let header = f.header;
-    if s[0] == QUERY {
+    if s[0] == header::QUERY {
         return s.len() == header;
     }
     if s.len() == header {
         return false;
     }
-    (end == s.len()) & (s[header] == STANDARD)
+    (end == s.len()) & (s[header] == header::STANDARD)
 }
 
 // The answer for a message that is refused.
@@ -276,8 +178,8 @@ pub fn check(f: Format, s: &[u8]) -> Checked
     if f.most < s.len() {
         return refused(DROP_SIZE);
     }
-    let header = header_of(s);
-    let number = header_number(f, header);
+    let header = header::header_of(s);
+    let number = header::header_number(f, header);
     if number != 0 {
         return refused(number);
     }

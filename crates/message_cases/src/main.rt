@@ -1,7 +1,7 @@
 // Runs the check of messages on the cases of standard input, and writes a line for each. Command 0
 // writes a label, 1 changes the message, and 2 checks its first bytes.
+use header::Header;
 use message::Blocks;
-use message::Header;
 
 // Room for a length that would pass if it were cut to 16 bits.
 const AREA: usize = 65600;

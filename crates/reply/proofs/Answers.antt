@@ -13,7 +13,7 @@ use lib.Seq.{take-append-seam}
 use Rattle.wire.specs.Parts.{part, splice}
 use Rattle.wire.proofs.Laws.{splice-front, length-splice}
 use Rattle.rows.proofs.Laws.{decided, none-is}
-use Rattle.message.specs.Format.{headerSize, standard, standardSize}
+use Rattle.header.specs.Format.{headerSize, standard, standardSize}
 use Rattle.message.specs.Blocks.{blocksFrom, blocksOf, standardBlocks}
 use Rattle.message.specs.Inside.{blockAt, standardsFrom}
 use Rattle.message.proofs.Laws.{all-standards, blocks-on, size-standard, standards-more, standards-same, first-inside, first-parts}

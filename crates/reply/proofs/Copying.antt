@@ -8,7 +8,7 @@ use borrow.Author.Tests.{lt-leb, le-leb, not-true, not-false}
 use lib.Dec.{leb}
 use lib.ListN.{length, take, drop}
 use Rattle.wire.specs.Parts.{splice}
-use Rattle.message.specs.Format.{headerSize, standardSize}
+use Rattle.header.specs.Format.{headerSize, standardSize}
 use Rattle.message.specs.Blocks.{blocksEnd}
 use Rattle.message.specs.Inside.{standardsFrom}
 use Rattle.rows.specs.Rows.{firstOf}

@@ -8,7 +8,7 @@ use lib.ListN.{length, replicate, take, drop, length-drop, length-take}
 use Rattle.wire.specs.Numbers.{byteAt, be16, be32, be64}
 use Rattle.wire.specs.Parts.{part, splice}
 use Rattle.wire.proofs.Laws.{splice-front}
-use Rattle.message.specs.Format.{standardSize, incomingOffset, outgoingOffset, upstreamOffset, codeOffset}
+use Rattle.header.specs.Format.{standardSize, incomingOffset, outgoingOffset, upstreamOffset, codeOffset}
 use Rattle.reply.specs.declared.Standard.{Standard}
 use Rattle.reply.specs.Standard.{inputOffset, outputOffset, maskOffset, sBit, standardOf, standardIn}
 

@@ -13,7 +13,7 @@ use lib.Seq.{getD-drop}
 use Rattle.wire.specs.Numbers.{byteAt, be16}
 use Rattle.wire.proofs.Laws.{be-drop}
 use Rattle.rows.proofs.Laws.{decided}
-use Rattle.message.specs.Format.{headerSize, standard, standardSize}
+use Rattle.header.specs.Format.{headerSize, standard, standardSize}
 use Rattle.message.specs.declared.BlockHead.{BlockHead}
 use Rattle.message.specs.Blocks.{begins, blocksOf, totalSize, blocksEnd}
 use Rattle.message.specs.Inside.{blockAt, standardsFrom}

@@ -5,7 +5,7 @@ use mathlib.Core.List.{List, [], _∷_}
 use mathlib.Core.Logic.{_⊎_, inl, inr, ⊎-elim}
 use native.Mathlib.Omega.{arith}
 use lib.ListN.{length, getD}
-use Rattle.message.specs.Format.{standardSize}
+use Rattle.header.specs.Format.{standardSize}
 use Rattle.message.specs.Inside.{noBlock, standardsFrom}
 use Rattle.message.proofs.Laws.{standards-over, none-short, first-low, first-inside, first-same, first-parts}
 use Rattle.reply.specs.Inside.{firstOr, Settled}

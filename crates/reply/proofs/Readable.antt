@@ -8,10 +8,11 @@ use native.Mathlib.Omega.{arith}
 use lib.Dec.{ltb}
 use lib.ListN.{length}
 use Rattle.wire.specs.Numbers.{byteAt}
-use Rattle.message.specs.Format.{headerSize, most, reply}
-use Rattle.message.specs.Header.{headerOf, rightLength}
+use Rattle.header.specs.Format.{headerSize, most, reply}
+use Rattle.header.specs.Header.{headerOf, rightLength}
 use Rattle.message.specs.Blocks.{blocksEnd, fillsMessage, requestForm, rightForm, standardCount}
-use Rattle.message.specs.Check.{dropSize, dropHeader, dropBlocks}
+use Rattle.message.specs.Check.{dropSize, dropBlocks}
+use Rattle.header.specs.Rows.{dropHeader}
 use Rattle.message.proofs.Laws.{request-formed, request-has-standard}
 use Rattle.rows.specs.Rows.{firstOf}
 use Rattle.rows.proofs.Laws.{neither-of, both-of, none-at, zero-none}

@@ -9,7 +9,7 @@ use lib.ListN.{length, getD, take, drop}
 use lib.Seq.{take-all}
 use denote.Ref.{RefT, now}
 use Rattle.wire.specs.Parts.{part}
-use Rattle.message.specs.Format.{headerSize, standardSize}
+use Rattle.header.specs.Format.{headerSize, standardSize}
 use Rattle.message.specs.Blocks.{standards, standardBlocks}
 use Rattle.message.specs.Inside.{standardsFrom}
 use Rattle.message.proofs.Laws.{all-standards, first-parts}

@@ -6,10 +6,11 @@ use mathlib.Core.List.{List}
 use borrow.Author.Tests.{lt-ltb, le-ltb, eq-eqb, ne-eqb}
 use lib.ListN.{length}
 use Rattle.wire.specs.Numbers.{byteAt, be16}
-use Rattle.message.specs.Format.{headerSize, most, reply}
-use Rattle.message.specs.Header.{headerOf}
+use Rattle.header.specs.Format.{headerSize, most, reply}
+use Rattle.header.specs.Header.{headerOf}
 use Rattle.message.specs.Blocks.{rightForm}
-use Rattle.message.specs.Check.{dropSize, dropHeader, dropBlocks}
+use Rattle.message.specs.Check.{dropSize, dropBlocks}
+use Rattle.header.specs.Rows.{dropHeader}
 use Rattle.rows.specs.Rows.{byFirst, firstOf}
 use Rattle.rows.proofs.Laws.{given-alone, none-alone}
 use Rattle.reply.specs.Check.{notReply, replyRows}

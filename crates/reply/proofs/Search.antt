@@ -6,7 +6,7 @@ use mathlib.Core.List.{List, [], _∷_}
 use native.Mathlib.Omega.{arith}
 use borrow.Author.Tests.{eq-eqb, ne-eqb}
 use lib.ListN.{length, getD}
-use Rattle.message.specs.Format.{standard, standardSize}
+use Rattle.header.specs.Format.{standard, standardSize}
 use Rattle.message.specs.declared.BlockHead.{BlockHead}
 use Rattle.message.specs.Inside.{noBlock, blockAt, standardsFrom}
 use Rattle.message.proofs.Laws.{standards-over, standards-more, standards-same, none-short, first-inside}

@@ -9,7 +9,7 @@ use borrow.Author.Tests.{eq-eqb, ne-eqb, eqb-true, eqb-false}
 use lib.Dec.{eqb}
 use lib.ListN.{length, drop, length-drop}
 use Rattle.wire.specs.Numbers.{be16}
-use Rattle.message.specs.Format.{headerSize}
+use Rattle.header.specs.Format.{headerSize}
 use Rattle.message.specs.Blocks.{begins, blocksFrom, blocksOf, totalSize, blocksEnd}
 use Rattle.message.specs.Inside.{blockAt}
 use Rattle.message.proofs.Laws.{begun, by-blocks, no-blocks, block-first, blocks-on}

@@ -5,11 +5,12 @@ use mathlib.Core.List.{List, [], _∷_}
 use lib.Dec.{eqb}
 use lib.ListN.{length}
 use Rattle.rows.specs.Rows.{Row, row, NoneApplies}
-use Rattle.message.specs.declared.Header.{Header}
-use Rattle.message.specs.Format.{reply}
-use Rattle.message.specs.Header.{headerOf, rightLength}
+use Rattle.header.specs.declared.Header.{Header}
+use Rattle.header.specs.Format.{reply}
+use Rattle.header.specs.Header.{headerOf, rightLength}
 use Rattle.message.specs.Blocks.{rightForm}
-use Rattle.message.specs.Check.{dropSize, dropHeader, dropBlocks, wrongSize}
+use Rattle.message.specs.Check.{dropSize, dropBlocks, wrongSize}
+use Rattle.header.specs.Rows.{dropHeader}
 use Rattle.format.specs.Sizes.{ipv4}
 
 -- 41: not a Reply

@@ -6,7 +6,7 @@ use lib.Dec.{leb, eqb}
 use lib.ListN.{length, take}
 use Rattle.rows.specs.Rows.{byFirst}
 use Rattle.wire.specs.Parts.{splice}
-use Rattle.message.specs.Format.{standardSize}
+use Rattle.header.specs.Format.{standardSize}
 use Rattle.message.specs.Blocks.{Placed, blocksOf}
 use Rattle.reply.specs.declared.Handed.{Handed}
 use Rattle.reply.specs.Check.{replyRows}

@@ -6,7 +6,7 @@ use mathlib.Core.Path.{_≡_}
 use lib.ListN.{length, drop}
 use denote.Ref.{RefT, now}
 use Rattle.rows.specs.Rows.{byFirst}
-use Rattle.message.specs.Format.{headerSize, standardSize}
+use Rattle.header.specs.Format.{headerSize, standardSize}
 use Rattle.message.specs.Blocks.{blocksFrom, standardPlaces, standardBlocks}
 use Rattle.reply.specs.declared.Standard.{Standard}
 use Rattle.reply.specs.declared.Handed.{Handed}

@@ -3,7 +3,7 @@ ghost use mathlib.Core.Path.{_≡_};
 ghost use Prim.Native.Nat.{_+_, _≤_};
 ghost use lib.ListN.{length};
 ghost use Rattle.format.specs.Sizes.{ipv4};
-ghost use Rattle.message.specs.Format.{headerSize, standardSize};
+ghost use Rattle.header.specs.Format.{headerSize, standardSize};
 ghost use Rattle.message.specs.Blocks.{blocksEnd};
 ghost use Rattle.message.specs.Inside.{standardsFrom};
 ghost use Rattle.rows.specs.Rows.{firstOf};
@@ -70,11 +70,11 @@ pub fn check(s: &[u8]) -> u32
     if format::MOST < s.len() {
         return message::DROP_SIZE;
     }
-    if s[0] != message::REPLY {
+    if s[0] != header::REPLY {
         return NOT_REPLY;
     }
     if wire::be16(s, 1) != HEADER_LENGTH {
-        return message::DROP_HEADER;
+        return header::DROP_HEADER;
     }
     let blocks = message::blocks_of(format::IPV4, s);
     if message::right_form(format::IPV4, s, blocks.end) {
@@ -96,7 +96,7 @@ pub fn next_at(s: &[u8], place: usize) -> usize
         if block.size == 0 {
             return s.len();
         }
-        if block.kind == message::STANDARD {
+        if block.kind == header::STANDARD {
             return at;
         }
         at += block.size;
@@ -111,7 +111,7 @@ pub fn next_known(s: &[u8], place: usize) -> usize
 {
     let mut here = place;
     while here < s.len() {
-        if s[here] == message::STANDARD {
+        if s[here] == header::STANDARD {
             return here;
         }
         here += wire::be16(s, here + 1) as usize;
@@ -126,9 +126,9 @@ fn standard_of(bytes: [u8; 52]) -> Standard
     Standard {
         bytes,
         time: wire::be32(&bytes, 4),
-        incoming: wire::be32(&bytes, message::INCOMING_OFFSET),
-        outgoing: wire::be32(&bytes, message::OUTGOING_OFFSET),
-        upstream: wire::be32(&bytes, message::UPSTREAM_OFFSET),
+        incoming: wire::be32(&bytes, header::INCOMING_OFFSET),
+        outgoing: wire::be32(&bytes, header::OUTGOING_OFFSET),
+        upstream: wire::be32(&bytes, header::UPSTREAM_OFFSET),
         input: wire::be64(&bytes, INPUT_OFFSET),
         output: wire::be64(&bytes, OUTPUT_OFFSET),
         total: wire::be64(&bytes, 36),

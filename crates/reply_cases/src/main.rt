@@ -1,7 +1,7 @@
 // Reads Replies and asks for the loss between two, on the cases of standard input, and writes lines for each. Command 0 writes a
 // label, 1 to 3 change the two Replies and what is written, 4 to 7 call an entry for C, 8 reads a Reply, and 9 asks for the links.
-use loss::Link;
-use loss::Tally;
+use link::Link;
+use link::Tally;
 use reply::Handed;
 use reply::Reader;
 use reply::Standard;
@@ -195,9 +195,9 @@ fn print_between(near: Handed, near2: Handed, far: Handed, far2: Handed) {
     let behind = far.block;
     let block2 = near2.block;
     let behind2 = far2.block;
-    let count = loss::count_of(block, behind);
-    let count2 = loss::count_of(block2, behind2);
-    print_link(loss::link_of(count, count2));
+    let count = link::count_of(block, behind);
+    let count2 = link::count_of(block2, behind2);
+    print_link(link::link_of(count, count2));
 }
 
 // Writes a line for each link of two Replies over one path.

@@ -28,8 +28,8 @@ use Rattle.forwarding.specs.declared.View.{View}
 use Rattle.forwarding.specs.declared.Incoming.{Incoming}
 use Rattle.response.specs.Fill.{allRouters, upstreamOf, blockOf, endsTrace}
 use Rattle.written.specs.Bytes.{blockBytes}
-use Rattle.message.specs.Format.{query, request, noteSize}
-use Rattle.message.specs.Header.{headerOf, retyped}
+use Rattle.header.specs.Format.{query, request, noteSize}
+use Rattle.header.specs.Header.{headerOf, retyped}
 use Rattle.message.specs.Blocks.{standardCount}
 use Rattle.message.proofs.Laws.{standards-few, Accepted, accepted-kinds, accepted-query, sent-header, sent-count, sent-accepted}
 use Rattle.drops.specs.Arrival.{Arrival, arrival, routeFor}

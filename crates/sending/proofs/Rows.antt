@@ -17,12 +17,12 @@ use Rattle.written.specs.declared.Block.{Block}
 use Rattle.forwarding.specs.View.{addressOf}
 use Rattle.response.specs.Fill.{upstreamOf, blockOf, endsTrace}
 use Rattle.written.specs.Bytes.{blockBytes, noteBytes}
-use Rattle.message.specs.declared.Header.{Header}
-use Rattle.message.specs.Header.{headerOf}
+use Rattle.header.specs.declared.Header.{Header}
+use Rattle.header.specs.Header.{headerOf}
 use Rattle.message.specs.Blocks.{lastStandard}
 use Rattle.sending.specs.Answer.{sentOn, sentHome, mtracePort, noteHome, noteOn, goesHome, goesOn, fullMessage, longerMessage, longerAnswer}
 use Rattle.sending.specs.Inside.{kindSent, Written, WithRoom}
-use Rattle.message.specs.Format.{request, reply}
+use Rattle.header.specs.Format.{request, reply}
 use Rattle.forwarding.specs.Code.{codeNoSpace}
 use Rattle.message.specs.Room.{hopsUsed}
 use Rattle.sending.proofs.Sent.{longer-length}

@@ -20,8 +20,8 @@ use Rattle.response.specs.Fill.{blockOf, endsTrace}
 use Rattle.written.specs.Bytes.{blockBytes}
 use Rattle.response.proofs.Laws.{no-route-ends}
 use Rattle.forwarding.proofs.Laws.{hidden-no-route}
-use Rattle.message.specs.Format.{request, reply}
-use Rattle.message.specs.Header.{headerOf}
+use Rattle.header.specs.Format.{request, reply}
+use Rattle.header.specs.Header.{headerOf}
 use Rattle.message.specs.Blocks.{lastStandard}
 use Rattle.message.proofs.Laws.{Accepted}
 use Rattle.drops.specs.Arrival.{Arrival, routeFor}

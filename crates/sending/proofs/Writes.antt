@@ -10,7 +10,7 @@ use Rattle.wire.proofs.Laws.{splice-front, splice-join}
 use Rattle.written.specs.declared.Block.{Block}
 use Rattle.written.specs.declared.Note.{Note}
 use Rattle.written.specs.Bytes.{blockBytes, noteBytes}
-use Rattle.message.specs.Format.{reply}
+use Rattle.header.specs.Format.{reply}
 use Rattle.forwarding.specs.Code.{codeNoSpace}
 use Rattle.sending.specs.Answer.{longerMessage}
 use Rattle.format.specs.declared.Format.{Format}

@@ -14,9 +14,9 @@ use Rattle.forwarding.specs.View.{addressOf}
 use Rattle.forwarding.specs.Code.{codeNoSpace}
 use Rattle.response.specs.Fill.{upstreamOf, blockOf, endsTrace}
 use Rattle.written.specs.Bytes.{blockBytes}
-use Rattle.message.specs.declared.Header.{Header}
-use Rattle.message.specs.Format.{request, reply}
-use Rattle.message.specs.Header.{headerOf}
+use Rattle.header.specs.declared.Header.{Header}
+use Rattle.header.specs.Format.{request, reply}
+use Rattle.header.specs.Header.{headerOf}
 use Rattle.message.specs.Blocks.{lastStandard}
 use Rattle.message.specs.Room.{isFull, hopsUsed}
 use Rattle.drops.specs.Arrival.{Arrival}

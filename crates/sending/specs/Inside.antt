@@ -7,9 +7,9 @@ use lib.ListN.{length}
 use Rattle.interface.specs.Interface.{mostInterfaces}
 use Rattle.forwarding.specs.declared.View.{View}
 use Rattle.response.specs.Inside.{RouteFits}
-use Rattle.message.specs.declared.Header.{Header}
-use Rattle.message.specs.Format.{request, reply, noteSize}
-use Rattle.message.specs.Header.{headerOf}
+use Rattle.header.specs.declared.Header.{Header}
+use Rattle.header.specs.Format.{request, reply, noteSize}
+use Rattle.header.specs.Header.{headerOf}
 use Rattle.message.specs.Blocks.{lastStandard}
 use Rattle.message.specs.Room.{HasRoom, hopsUsed}
 use Rattle.wire.specs.Parts.{splice}

@@ -2,8 +2,8 @@
 use format::Format;
 use forwarding::Incoming;
 use forwarding::View;
+use header::Header;
 use interface::Interface;
-use message::Header;
 use route::Chosen;
 use written::Block;
 use written::Note;
@@ -14,7 +14,7 @@ ghost use Rattle.wire.specs.Parts.{splice};
 ghost use Rattle.format.specs.Sizes.{Sound, outputSize};
 ghost use Rattle.forwarding.specs.Code.{codeNoSpace};
 ghost use Rattle.written.specs.Inside.{Writes};
-ghost use Rattle.message.specs.Format.{reply, noteSize};
+ghost use Rattle.header.specs.Format.{reply, noteSize};
 ghost use Rattle.written.specs.Bytes.{blockBytes, noteBytes};
 ghost use Rattle.sending.specs.Answer.{noteHome, noteOn, goesHome, fullMessage, longerMessage, longerAnswer};
 ghost use Rattle.sending.specs.Inside.{Written, WithRoom, WithoutRoom, kindSent};
@@ -36,7 +36,7 @@ fn write_full(f: Format, message: &[u8], last: usize, output: &mut [u8])
     ensures { λ _. ⌜ now (output .exit) ≡ splice (now (output .entry)) 0 (set (set (now (message .entry)) 0 reply) (last + f .code) codeNoSpace) ⌝ }
 {
     wire::copy_to(output, 0, message);
-    output[0] = message::REPLY;
+    output[0] = header::REPLY;
     output[last + f.code] = forwarding::CODE_NO_SPACE;
 }
 
@@ -102,9 +102,9 @@ fn kind_sent(ends: bool) -> u8
     ensures { λ r. ⌜ r ≡ kindSent ends ⌝ }
 {
     if ends {
-        return message::REPLY;
+        return header::REPLY;
     }
-    message::REQUEST
+    header::REQUEST
 }
 
 // There is room: the block is appended, and the message goes home or on.

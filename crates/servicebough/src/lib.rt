@@ -15,7 +15,7 @@ ghost use Rattle.rows.specs.Rows.{firstOf};
 ghost use Rattle.reply.specs.Check.{replyRows};
 ghost use Rattle.reply.specs.Copy.{copied, copiedNext};
 ghost use Rattle.loss.specs.Loss.{written, lossOf};
-ghost use Rattle.loss.specs.Difference.{differenceOf};
+ghost use Rattle.arrivals.specs.Difference.{differenceOf};
 ghost use Rattle.servicebough.specs.Ticks.{TickMeets};
 ghost use Rattle.servicebough.specs.Answers.{answerSize, answerLeft, handed, walkHanded};
 ghost use Rattle.format.specs.Sizes.{ipv4};
@@ -187,5 +187,5 @@ pub extern "C" fn bough_reply_loss(first: &[u8], second: &[u8], links: &mut [u8]
 pub extern "C" fn bough_arrival_difference(later: u32, earlier: u32) -> i32
     ensures { λ d. ⌜ d ≡ differenceOf later earlier ⌝ }
 {
-    loss::difference(later, earlier)
+    arrivals::difference(later, earlier)
 }

@@ -11,7 +11,7 @@ use lib.ListN.{length, take, drop, length-drop}
 use lib.Seq.{length-take-le}
 use Rattle.rows.proofs.Laws.{decided}
 use Rattle.wire.specs.Parts.{part}
-use Rattle.message.specs.Format.{headerSize, most, standard, standardSize}
+use Rattle.header.specs.Format.{headerSize, most, standard, standardSize}
 use Rattle.message.specs.Blocks.{standards, standardBlocks}
 use Rattle.message.specs.Inside.{blockAt, standardsFrom}
 use Rattle.message.specs.declared.BlockHead.{BlockHead}

@@ -8,7 +8,7 @@ use lib.ListN.{length, take, drop, length-append}
 use lib.Seq.{take-append-seam, length-take-le}
 use Rattle.wire.specs.Parts.{splice}
 use Rattle.wire.proofs.Laws.{splice-front}
-use Rattle.message.specs.Format.{most}
+use Rattle.header.specs.Format.{most}
 use Rattle.message.specs.Blocks.{standardBlocks}
 use Rattle.yard.specs.declared.Walked.{Walked}
 use Rattle.yard.specs.Walk.{Walk, Tells}

@@ -12,7 +12,7 @@ use Rattle.yard.specs.declared.Walked.{Walked}
 use Rattle.wire.proofs.Laws.{splice-join}
 use Rattle.wire.specs.Numbers.{byteAt}
 use Rattle.text.specs.Ascii.{ascii}
-use Rattle.message.specs.Format.{outgoingOffset, incomingOffset, upstreamOffset}
+use Rattle.header.specs.Format.{outgoingOffset, incomingOffset, upstreamOffset}
 use Rattle.text.specs.Text.{zeroDigit, decimal, number, octet, dotted, addresses, codeText, lineOf, endText, firstLine, mostLine, mostFirst}
 use Rattle.text.specs.Inside.{Written}
 

@@ -4,7 +4,7 @@ use mathlib.Core.List.{List, [], _∷_, _++_}
 use lib.ListN.{take, drop, replicate}
 use Rattle.wire.specs.Numbers.{byteAt, be16, be32}
 use Rattle.wire.specs.Parts.{splice}
-use Rattle.message.specs.Format.{headerSize}
+use Rattle.header.specs.Format.{headerSize}
 use Rattle.drops.specs.Arrival.{arrival}
 use Rattle.yard.specs.Yard.{sheetSize, mostRouters}
 use Rattle.yard.specs.Walk.{Visit, visit, Walk, walkOf}

@@ -5,7 +5,7 @@ use mathlib.Core.Bool.{cond}
 use mathlib.Core.List.{List, [], _∷_, _++_}
 use lib.Dec.{ltb, eqb}
 use Rattle.wire.specs.Numbers.{byteAt}
-use Rattle.message.specs.Format.{headerSize, most, standardSize, incomingOffset, outgoingOffset, upstreamOffset, codeOffset}
+use Rattle.header.specs.Format.{headerSize, most, standardSize, incomingOffset, outgoingOffset, upstreamOffset, codeOffset}
 use Rattle.message.specs.Blocks.{standardBlocks}
 use Rattle.sending.specs.Answer.{sentHome}
 use Rattle.yard.specs.declared.Walked.{Walked}

@@ -6,7 +6,7 @@ ghost use mathlib.Core.Bool.{true, cond};
 ghost use mathlib.Core.List.{[], _∷_, _++_};
 ghost use lib.ListN.{length, replicate};
 ghost use Rattle.wire.specs.Parts.{splice};
-ghost use Rattle.message.specs.Format.{most, standardSize};
+ghost use Rattle.header.specs.Format.{most, standardSize};
 ghost use Rattle.yard.specs.Yard.{mostRouters};
 ghost use Rattle.yard.specs.Walk.{Tells};
 ghost use Rattle.message.specs.Blocks.{standardBlocks};
@@ -194,9 +194,9 @@ fn addresses(block: &[u8], text: &mut [u8], at: usize) -> usize
     requires { ⌜ (standardSize ≤ length (now block)) × (at + 58 ≤ length (now text)) ⌝ }
     ensures { λ r. ⌜ Written (addresses (now (block .entry))) 58 at (now (text .entry)) (now (text .exit)) r ⌝ }
 {
-    let incoming = address(b" out ", block, message::OUTGOING_OFFSET, text, at);
-    let upstream = address(b" in ", block, message::INCOMING_OFFSET, text, incoming);
-    address(b" up ", block, message::UPSTREAM_OFFSET, text, upstream)
+    let incoming = address(b" out ", block, header::OUTGOING_OFFSET, text, at);
+    let upstream = address(b" in ", block, header::INCOMING_OFFSET, text, incoming);
+    address(b" up ", block, header::UPSTREAM_OFFSET, text, upstream)
 }
 
 // A block's line: its place, its addresses, its code.
@@ -243,7 +243,7 @@ fn lines(m: &[u8], text: &mut [u8], from: usize) -> usize
         if block.size == 0 {
             return next;
         }
-        let standard = block.kind == message::STANDARD;
+        let standard = block.kind == header::STANDARD;
         let end = at + block.size;
         next = block_line(standard, count + 1, &m[at..end], text, next);
         count = either(standard, count + 1, count);

@@ -18,10 +18,10 @@ use Rattle.route.specs.declared.Chosen.{Chosen}
 use Rattle.route.specs.declared.Chosen.the-variants.{Found, Nothing}
 use Rattle.forwarding.specs.declared.Incoming.{Incoming}
 use Rattle.forwarding.specs.declared.Incoming.the-variants.{Known, Unknown}
-use Rattle.message.specs.declared.Header.{Header}
+use Rattle.header.specs.declared.Header.{Header}
 use Rattle.view.specs.View.{incomingFor, viewWith}
 use Rattle.view.specs.Inside.{RouteThere}
-use Rattle.message.specs.Format.{query}
+use Rattle.header.specs.Format.{query}
 use Rattle.format.specs.declared.Format.{Format}
 use Rattle.view.specs.Room.{linkOf}
 

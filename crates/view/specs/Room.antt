@@ -8,7 +8,7 @@ use Rattle.tables.specs.Tables.{interfaceOf}
 use Rattle.route.specs.declared.Chosen.{Chosen}
 use Rattle.forwarding.specs.declared.Incoming.{Incoming}
 use Rattle.forwarding.specs.declared.Incoming.the-variants.{Known, Unknown}
-use Rattle.message.specs.Header.{headerOf}
+use Rattle.header.specs.Header.{headerOf}
 use Rattle.drops.specs.Arrival.{Arrival, routeFor}
 use Rattle.view.specs.View.{incomingFor}
 

@@ -10,8 +10,8 @@ use Rattle.route.specs.declared.Chosen.the-variants.{Found, Nothing}
 use Rattle.forwarding.specs.declared.View.{View}
 use Rattle.forwarding.specs.declared.Incoming.{Incoming}
 use Rattle.forwarding.specs.declared.Incoming.the-variants.{Known, Unknown}
-use Rattle.message.specs.declared.Header.{Header}
-use Rattle.message.specs.Header.{headerOf}
+use Rattle.header.specs.declared.Header.{Header}
+use Rattle.header.specs.Header.{headerOf}
 use Rattle.drops.specs.Arrival.{Arrival, isQuery, routeFor, lastHopFor}
 use Rattle.format.specs.declared.Format.{Format}
 

@@ -2,8 +2,8 @@
 use format::Format;
 use forwarding::Incoming;
 use forwarding::View;
+use header::Header;
 use interface::Interface;
-use message::Header;
 use route::Chosen;
 ghost use mathlib.Core.Path.{_≡_};
 ghost use Prim.Native.Nat.{_<_};
@@ -59,7 +59,7 @@ pub fn view_with(
     ensures { λ v. ⌜ v ≡ viewWith f (now (sheet .entry)) h chosen proper receiving time ⌝ }
 {
     View {
-        query: h.kind == message::QUERY,
+        query: h.kind == header::QUERY,
         proper,
         chosen,
         incoming: incoming_for(f, sheet, chosen),

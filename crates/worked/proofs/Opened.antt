@@ -21,9 +21,10 @@ use Rattle.route.specs.LastHop.{reaches, someReaches, properLastHop}
 use Rattle.forwarding.specs.Code.{codes}
 use Rattle.response.specs.Fill.{filledOf, blockOf, endsTrace}
 use Rattle.written.specs.Bytes.{blockBytes, noteBytes}
-use Rattle.message.specs.Header.{headerOf}
+use Rattle.header.specs.Header.{headerOf}
 use Rattle.message.specs.Blocks.{fitsIn, begins, blocksBy, blocksFrom, blocksOf, totalSize, standardPlaces, lastOr, standards, blocksEnd, standardFirst, fillsMessage, rightForm, standardBlocks}
-use Rattle.message.specs.Check.{headerRows, messageRows}
+use Rattle.header.specs.Rows.{headerRows}
+use Rattle.message.specs.Check.{messageRows}
 use Rattle.recent.specs.Layout.{wellFormed}
 use Rattle.recent.specs.Entries.{empty, firstEntries, someIsOf, seenIn, enteredIn}
 use Rattle.drops.specs.Arrival.{routeFor, lastHopFor}

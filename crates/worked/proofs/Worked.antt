@@ -10,7 +10,7 @@ use Rattle.wire.specs.Numbers.{byteAt}
 use Rattle.clock.specs.Clock.{startOf, arrivalOf}
 use Rattle.clock.specs.Unix.{unixOf}
 use Rattle.clock.specs.Readings.{issues, times}
-use Rattle.message.specs.Format.{codeOffset}
+use Rattle.header.specs.Format.{codeOffset}
 use Rattle.message.specs.Blocks.{standards, standardCount}
 use Rattle.yard.specs.Walk.{Walk}
 use Rattle.text.specs.Text.{textOf}

@@ -4,7 +4,7 @@ use lib.ListN.{length}
 use Rattle.format.specs.Sizes.{ipv4}
 use Rattle.wire.specs.Numbers.{byteAt, be, bytes, bytes32}
 use Rattle.wire.specs.Parts.{part}
-use Rattle.message.specs.Format.{standardSize, incomingOffset, outgoingOffset, upstreamOffset, codeOffset, noteSize}
+use Rattle.header.specs.Format.{standardSize, incomingOffset, outgoingOffset, upstreamOffset, codeOffset, noteSize}
 use Rattle.written.specs.declared.Block.{Block}
 use Rattle.written.specs.declared.Note.{Note}
 use Rattle.written.specs.Bytes.{blockBytes, noteBytes}

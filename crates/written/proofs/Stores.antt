@@ -5,7 +5,7 @@ use mathlib.Core.Path.{_≡_}
 use lib.ListN.{set, replicate}
 use Rattle.wire.specs.Numbers.{bytes, bytes16, bytes32, bytes64}
 use Rattle.wire.specs.Parts.{splice}
-use Rattle.message.specs.Format.{standard, standardSize, codeOffset, noteSize}
+use Rattle.header.specs.Format.{standard, standardSize, codeOffset, noteSize}
 use Rattle.written.specs.declared.Block.{Block}
 use Rattle.written.specs.declared.Note.{Note}
 use Rattle.written.specs.Bytes.{blockBytes, noteBytes}

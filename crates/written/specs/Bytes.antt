@@ -2,7 +2,7 @@
 use Prim.Native.Nat.{ℕ}
 use mathlib.Core.List.{List, [], _∷_, _++_}
 use Rattle.wire.specs.Numbers.{bytes16, bytes32, bytes64}
-use Rattle.message.specs.Format.{standard, standardSize}
+use Rattle.header.specs.Format.{standard, standardSize}
 use Rattle.written.specs.declared.Block.{Block}
 use Rattle.written.specs.declared.Note.{Note}
 

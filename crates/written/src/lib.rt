@@ -38,7 +38,7 @@ pub fn block_bytes(b: Block) -> [u8; format::STANDARD_SIZE]
 {
     let f = b.filled;
     let mut a = [0u8; format::STANDARD_SIZE];
-    a[0] = message::STANDARD;
+    a[0] = header::STANDARD;
     a[2] = format::STANDARD_SIZE as u8;
     wire::put32(&mut a, 4, b.time);
     wire::put32(&mut a, 8, f.incoming);
@@ -56,10 +56,10 @@ pub fn block_bytes(b: Block) -> [u8; format::STANDARD_SIZE]
 }
 
 // The 16 bytes of an answer record.
-pub fn note_bytes(n: Note) -> [u8; message::NOTE_SIZE]
+pub fn note_bytes(n: Note) -> [u8; header::NOTE_SIZE]
     ensures { λ r. ⌜ r ≡ noteBytes n ⌝ }
 {
-    let mut a = [0u8; message::NOTE_SIZE];
+    let mut a = [0u8; header::NOTE_SIZE];
     wire::put16(&mut a, 0, n.length);
     wire::put32(&mut a, 2, n.destination);
     wire::put16(&mut a, 6, n.port);

@@ -19,8 +19,8 @@ use Rattle.written.specs.declared.Note.{Note}
 use Rattle.response.specs.Fill.{allRouters}
 use Rattle.written.specs.Bytes.{noteBytes}
 use Rattle.written.proofs.Laws.{note-length}
-use Rattle.message.specs.Format.{noteSize}
-use Rattle.message.specs.Header.{headerOf}
+use Rattle.header.specs.Format.{noteSize}
+use Rattle.header.specs.Header.{headerOf}
 use Rattle.drops.specs.Arrival.{Arrival}
 use Rattle.drops.specs.Drop.{lendingRows}
 use Rattle.drops.specs.Inside.{lentRows}

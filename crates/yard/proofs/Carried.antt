@@ -9,8 +9,8 @@ use lib.ListN.{length, take, getD}
 use lib.Seq.{take-suc, take-length}
 use Rattle.written.specs.declared.Block.{Block}
 use Rattle.written.specs.Bytes.{blockBytes}
-use Rattle.message.specs.Format.{request, reply, noteSize}
-use Rattle.message.specs.Header.{headerOf, retyped}
+use Rattle.header.specs.Format.{request, reply, noteSize}
+use Rattle.header.specs.Header.{headerOf, retyped}
 use Rattle.message.specs.Blocks.{standardBlocks, lastCoded}
 use Rattle.message.specs.Room.{Full, HasRoom}
 use Rattle.message.proofs.Laws.{Accepted, no-room-has-standard, sent-standard-blocks, coded-standard-blocks}

@@ -10,8 +10,8 @@ use lib.ListN.{length}
 use Rattle.wire.specs.Numbers.{byteAt}
 use Rattle.rows.specs.Rows.{NoneApplies}
 use Rattle.rows.proofs.Laws.{none-is, by-rows, none-at}
-use Rattle.message.specs.Format.{request}
-use Rattle.message.specs.Header.{headerOf}
+use Rattle.header.specs.Format.{request}
+use Rattle.header.specs.Header.{headerOf}
 use Rattle.message.specs.Blocks.{standardBlocks}
 use Rattle.message.proofs.Laws.{accepted-kinds, accepted-query, standards-few, standard-blocks-count}
 use Rattle.yard.specs.Walk.{walkRequest, Visit, Walk, refusedWalk, walkFrom, walkRows, walkOf}

@@ -15,7 +15,7 @@ use Rattle.wire.proofs.Laws.{splice-front}
 use Rattle.message.specs.declared.Blocks.{Blocks}
 use Rattle.message.specs.Blocks.{blocksFrom, blocksBy, blocksOf, standardPlaces, standards, standardCount}
 use Rattle.message.specs.Inside.{blocksSeen}
-use Rattle.message.specs.Format.{request}
+use Rattle.header.specs.Format.{request}
 use Rattle.message.specs.Room.{hopsLeft}
 use Rattle.message.proofs.Laws.{standards-few}
 use Rattle.drops.specs.Drop.{nearTtl}

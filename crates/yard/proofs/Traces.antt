@@ -9,7 +9,7 @@ use native.Mathlib.Nat.{le-div-iff-mul-le}
 use lib.ListN.{length, getD}
 use Rattle.recent.specs.Entries.{empty}
 use Rattle.written.specs.declared.Block.{Block}
-use Rattle.message.specs.Format.{noteSize}
+use Rattle.header.specs.Format.{noteSize}
 use Rattle.message.specs.Room.{hopsLeft}
 use Rattle.message.proofs.Laws.{Accepted}
 use Rattle.drops.proofs.Laws.{Taken, taken}

@@ -13,7 +13,7 @@ use Rattle.address.specs.Addresses.{multicast}
 use Rattle.rows.proofs.Laws.{decided, first-or-none}
 use Rattle.recent.specs.Entries.{empty}
 use Rattle.written.specs.declared.Block.{Block}
-use Rattle.message.specs.Format.{request, reply, noteSize}
+use Rattle.header.specs.Format.{request, reply, noteSize}
 use Rattle.message.specs.Room.{Full, HasRoom, hopsLeft}
 use Rattle.drops.specs.Arrival.{arrival}
 use Rattle.drops.specs.Drop.{nearTtl}

@@ -11,7 +11,7 @@ use Rattle.rows.specs.Rows.{NoneApplies}
 use Rattle.written.specs.declared.Block.{Block}
 use Rattle.response.specs.Fill.{blockOf}
 use Rattle.written.specs.Bytes.{blockBytes}
-use Rattle.message.specs.Header.{headerOf, retyped}
+use Rattle.header.specs.Header.{headerOf, retyped}
 use Rattle.message.specs.Blocks.{standardCount, standardBlocks, lastCoded}
 use Rattle.message.specs.Room.{Full, HasRoom}
 use Rattle.view.specs.View.{viewOf}

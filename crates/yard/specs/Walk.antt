@@ -11,7 +11,7 @@ use Rattle.wire.specs.Parts.{splice}
 use Rattle.address.specs.Addresses.{multicast}
 use Rattle.rows.specs.Rows.{Row, row, byFirst}
 use Rattle.recent.specs.Entries.{empty}
-use Rattle.message.specs.Format.{request, noteSize}
+use Rattle.header.specs.Format.{request, noteSize}
 use Rattle.message.specs.Blocks.{standardCount}
 use Rattle.message.specs.Room.{hopsLeft}
 use Rattle.drops.specs.Arrival.{Arrival, arrival}

@@ -8,7 +8,7 @@ ghost use lib.ListN.{length};
 ghost use Rattle.wire.specs.Numbers.{byteAt};
 ghost use Rattle.sheet_block.specs.Every.{every};
 ghost use Rattle.format.specs.Sizes.{ipv4, outputSize};
-ghost use Rattle.message.specs.Format.{request};
+ghost use Rattle.header.specs.Format.{request};
 ghost use Rattle.message.specs.Blocks.{standardCount};
 ghost use Rattle.drops.specs.Arrival.{arrival};
 ghost use Rattle.yard.specs.Yard.{sheetSize, mostRouters, routersIn, validAt, yardSizeOk, holderIn};
@@ -132,7 +132,7 @@ fn ask(
     ensures { λ r. ⌜ Called (sentFor ipv4 (now (sheet .entry)) time (arrival (now (message .entry)) destination receiving ttl)) (now (sent .entry)) r (now (sent .exit)) ⌝ }
 {
     let mut recent = [0u8; recent::LIST_SIZE];
-    let mut note = [0u8; message::NOTE_SIZE];
+    let mut note = [0u8; header::NOTE_SIZE];
     let answer = engine::step_lent(
         message,
         destination,
@@ -300,7 +300,7 @@ fn is_request(message: &[u8]) -> bool
     if message.len() == 0 {
         return false;
     }
-    message[0] == message::REQUEST
+    message[0] == header::REQUEST
 }
 
 // Nobody is entered, and nothing is sent.

@@ -1,8 +1,8 @@
 -- `header_of`: each field is the number that was read.
-use Rattle.message.specs.Header.{headerOf}
+use Rattle.header.specs.Header.{headerOf}
 use borrow.Author.Needs.{needs}
-use Rattle.message.proofs.header_of.Statement.{statement}
-use Rattle.message.proofs.header_of.Tie as tie
+use Rattle.header.proofs.header_of.Statement.{statement}
+use Rattle.header.proofs.header_of.Tie as tie
 
 returns : tie.Need-returns
 unfolding headerOf

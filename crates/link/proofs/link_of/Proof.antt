@@ -1,8 +1,8 @@
 -- `link_of`: each way out is a name under those before it, or none.
-use Rattle.loss.proofs.Naming.{name-first, name-second, sent-rises, received-rises, name-third, name-none}
+use Rattle.link.proofs.Naming.{name-first, name-second, sent-rises, received-rises, name-third, name-none}
 use borrow.Author.Needs.{needs}
-use Rattle.loss.proofs.link_of.Statement.{statement}
-use Rattle.loss.proofs.link_of.Tie as tie
+use Rattle.link.proofs.link_of.Statement.{statement}
+use Rattle.link.proofs.link_of.Tie as tie
 
 returns : tie.Need-returns
 returns c = search name-first

@@ -6,9 +6,9 @@ use borrow.Author.Tests.{lt-ltb, le-ltb, ltb-false}
 use lib.Dec.{ltb}
 use Rattle.rows.specs.Rows.{byFirst}
 use Rattle.rows.proofs.Laws.{neither-of}
-use Rattle.loss.specs.declared.Count.{Count}
-use Rattle.loss.specs.declared.Link.the-variants.{NotCounted, Fallen, Surplus}
-use Rattle.loss.specs.Link.{notCounted, fallen, names, linkOf, counted}
+use Rattle.link.specs.declared.Count.{Count}
+use Rattle.link.specs.declared.Link.the-variants.{NotCounted, Fallen, Surplus}
+use Rattle.link.specs.Link.{notCounted, fallen, names, linkOf, counted}
 
 module _ (first second : Count) (n : Bool) (en : n ≡ notCounted first second) where
   pub name-first : n ≡ true → NotCounted ≡ linkOf first second

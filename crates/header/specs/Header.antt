@@ -5,8 +5,8 @@ use mathlib.Core.List.{List}
 use lib.Dec.{eqb}
 use Rattle.wire.specs.Numbers.{byteAt, be16, be32}
 use Rattle.address.specs.Addresses.{unicast, multicast, allOnes}
-use Rattle.message.specs.declared.Header.{Header}
-use Rattle.message.specs.Format.{query, request}
+use Rattle.header.specs.declared.Header.{Header}
+use Rattle.header.specs.Format.{query, request}
 use Rattle.format.specs.declared.Format.{Format}
 
 -- the header that a list of bytes begins with: type, length, hops, multicast address, source address, client address,

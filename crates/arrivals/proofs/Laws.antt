@@ -12,7 +12,7 @@ use mir.Syntax.{w32}
 use mir.Val.{SFits, toZ, ofZ}
 use mir.ValLaws.{toZ-ofZ}
 use Rattle.clock.specs.Clock.{arrivalTimes}
-use Rattle.loss.specs.Difference.{halfTimes, apart, signed, differenceOf, InRange, laterBy}
+use Rattle.arrivals.specs.Difference.{halfTimes, apart, signed, differenceOf, InRange, laterBy}
 
 -- what wraps round to later is later minus earlier
 pub is-apart : (n later earlier : ℕ) → n < arrivalTimes → later < arrivalTimes → earlier < arrivalTimes → (n + earlier) % arrivalTimes ≡ later

@@ -1,8 +1,8 @@
 -- `difference`: forth by less than half of the times, else back.
-use Rattle.loss.proofs.Signed.{is-apart, goes-forth, back-fits, goes-back}
+use Rattle.arrivals.proofs.Laws.{is-apart, goes-forth, back-fits, goes-back}
 use borrow.Author.Needs.{needs}
-use Rattle.loss.proofs.difference.Statement.{statement}
-use Rattle.loss.proofs.difference.Tie as tie
+use Rattle.arrivals.proofs.difference.Statement.{statement}
+use Rattle.arrivals.proofs.difference.Tie as tie
 
 returns : tie.Need-returns
 returns c =

@@ -1,9 +1,9 @@
 -- `header_number`: each row is handed what the rows after it give, and the nested rows are the chain of the definition.
 use Rattle.rows.specs.Rows.{byFirst}
-use Rattle.message.specs.Check.{headerRows}
+use Rattle.header.specs.Rows.{headerRows}
 use borrow.Author.Needs.{needs}
-use Rattle.message.proofs.header_number.Statement.{statement}
-use Rattle.message.proofs.header_number.Tie as tie
+use Rattle.header.proofs.header_number.Statement.{statement}
+use Rattle.header.proofs.header_number.Tie as tie
 
 returns : tie.Need-returns
 unfolding headerRows byFirst

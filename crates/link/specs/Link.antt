@@ -7,10 +7,10 @@ use lib.ListN.{replicate}
 use Rattle.rows.specs.Rows.{Row, row, byFirst}
 use Rattle.wire.specs.Numbers.{bytes64}
 use Rattle.reply.specs.declared.Standard.{Standard}
-use Rattle.loss.specs.declared.Count.{Count}
-use Rattle.loss.specs.declared.Tally.{Tally}
-use Rattle.loss.specs.declared.Link.{Link}
-use Rattle.loss.specs.declared.Link.the-variants.{Counted, NotCounted, Fallen, Surplus}
+use Rattle.link.specs.declared.Count.{Count}
+use Rattle.link.specs.declared.Tally.{Tally}
+use Rattle.link.specs.declared.Link.{Link}
+use Rattle.link.specs.declared.Link.the-variants.{Counted, NotCounted, Fallen, Surplus}
 
 -- by one Reply: what was sent into it is the output count of block k + 1, what came out of it the input count of block k
 abbrev pub countOf : Standard → Standard → Count
