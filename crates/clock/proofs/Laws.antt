@@ -4,16 +4,14 @@ use Prim.Native.Nat.{ℕ, zero, suc, _+_, _-_, _≤_, _<_}
 use mathlib.Core.List.{List, [], _∷_}
 use mathlib.Core.Path.{_≡_, refl}
 use native.Mathlib.Omega.{arith}
-use lib.Dec.{leb, ltb, eqb}
+use lib.Dec.{leb, ltb}
 use lib.ListN.{length, getD}
-use borrow.Author.Tests.{ltb-false, leb-true, eqb-true, le-ltb, ne-eqb}
+use borrow.Author.Tests.{ltb-false, leb-true, le-ltb, ne-eqb}
 use Rattle.rows.specs.Rows.{byFirst, NoneApplies}
 use Rattle.rows.proofs.Laws.{by-rows, first-passes, neither-of}
 use Rattle.clock.specs.declared.Clock.{Clock}
 use Rattle.clock.specs.declared.Tick.{Tick}
-use Rattle.clock.specs.declared.Units.{Units}
 use Rattle.clock.specs.Clock.{lastTime, outOfRange, spent, clockOf, issued, refusedTick, timeFor, startRows, advanceRows, startOf, advanceOf}
-use Rattle.clock.specs.Unix.{clockUnix, unitsFor, unixRows, converted, refusedUnits, unixOf}
 use Rattle.clock.specs.Readings.{afterBy, after, Issue, issueThen, issuesBy, issues, allIssues, times, Sound, RiseAbove, NeverTwice, lead, RoseByTwo, Shrunk}
 use Rattle.clock.proofs.Time.{Takes, not-last, by-rise}
 
@@ -131,12 +129,3 @@ lead-shrinks (t ∷ ts) c u =
     let later = lead-shrinks ts next (up .1) in
     chain (c .r) t (after next ts .r) _ _ _ (fall .0) (later .0) (fall .1) (later .1))
     u
-
--- a UNIX time comes to 0 units exactly where it is refused
-pub unix-zero : (s n : ℕ) → (unixOf s n .number ≡ clockUnix → unixOf s n .units ≡ 0) × (unixOf s n .units ≡ 0 → unixOf s n .number ≡ clockUnix)
-unfolding unixOf
-unix-zero s n =
-    by-rows refusedUnits (converted (unitsFor s n))
-    (λ (u : Units). (u .number ≡ clockUnix → u .units ≡ 0) × (u .units ≡ 0 → u .number ≡ clockUnix)) (unixRows s n)
-    (λ k f. (λ e. refl, λ z. eqb-true k clockUnix (first-passes (λ m. eqb m clockUnix) (unixRows s n) k refl f)))
-    (λ none. (λ e. absurd (omega arith), λ z. absurd (omega arith)))

@@ -1,4 +1,3 @@
 -- The clock (document 01, "Clock", and the paragraph on what it refuses).
 pub mod Clock
-pub mod Unix
 pub mod Readings

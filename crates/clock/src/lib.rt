@@ -2,7 +2,6 @@
 ghost use mathlib.Core.Path.{_≡_};
 ghost use Prim.Native.Nat.{_≤_, _<_, min};
 ghost use Rattle.clock.specs.Clock.{lastTime, timeFor, startOf, advanceOf, arrivalOf};
-ghost use Rattle.clock.specs.Unix.{unixOf};
 
 // The last reading r and the last issued time y, in units of 1/65536 s since NTP era 0.
 pub struct Clock {
@@ -17,33 +16,13 @@ pub struct Tick {
     pub time: u64,
 }
 
-// A UNIX time in units, or 0 beside the number 32.
-pub struct Units {
-    pub number: u32,
-    pub units: u64,
-}
-
 const LAST_TIME: u64 = 281474976710655;
 
 const CLOCK_READING: u32 = 31;
 
-const CLOCK_UNIX: u32 = 32;
-
 const CLOCK_STATE: u32 = 33;
 
 const ARRIVAL_TIMES: u64 = 4294967296;
-
-const UNIX_EPOCH: u64 = 2208988800;
-
-const LAST_SECOND: u64 = 2085978495;
-
-const SECOND_UNITS: u64 = 65536;
-
-const SECOND_NANOS: u64 = 1000000000;
-
-const RATIO_UNITS: u64 = 128;
-
-const RATIO_NANOS: u64 = 1953125;
 
 fn smaller(a: u64, b: u64) -> u64
     ensures { λ r. ⌜ r ≡ min a b ⌝ }
@@ -119,22 +98,6 @@ impl Clock {
             return next;
         }
         smaller(LAST_TIME, next + (t - far) / 2)
-    }
-}
-
-// UNIX time to units.
-pub fn unix(seconds: u64, nanoseconds: u64) -> Units
-    ensures { λ u. ⌜ u ≡ unixOf seconds nanoseconds ⌝ }
-{
-    if LAST_SECOND < seconds || SECOND_NANOS <= nanoseconds {
-        return Units {
-            number: CLOCK_UNIX,
-            units: 0,
-        };
-    }
-    Units {
-        number: 0,
-        units: (seconds + UNIX_EPOCH) * SECOND_UNITS + nanoseconds * RATIO_UNITS / RATIO_NANOS,
     }
 }
 

@@ -44,7 +44,7 @@ fn unix(seconds: u64, nanoseconds: u64) {
     tape::then(seconds);
     tape::then(nanoseconds);
     tape::text(b" ->");
-    let u = clock::unix(seconds, nanoseconds);
+    let u = unix::unix(seconds, nanoseconds);
     tape::then(u.number as u64);
     tape::then(u.units);
     tape::end();

@@ -9,9 +9,9 @@ use lib.Dec.{ltb}
 use Rattle.rows.specs.Rows.{byFirst}
 use Rattle.rows.proofs.Laws.{decided}
 use Rattle.clock.specs.declared.Clock.{Clock}
-use Rattle.clock.specs.declared.Units.{Units}
+use Rattle.unix.specs.declared.Units.{Units}
 use Rattle.clock.specs.Clock.{lastTime, clockOf, timeFor, startOf, advanceOf, arrivalOf}
-use Rattle.clock.specs.Unix.{lastSecond, secondNanos, clockUnix, refusedUnits, unixOf}
+use Rattle.unix.specs.Unix.{lastSecond, secondNanos, clockUnix, refusedUnits, unixOf}
 use Rattle.clock.proofs.Laws.{accepts, always-sound, issues-rise, never-twice, lead-grows, lead-shrinks}
 use Rattle.demands.specs.Clock.{Start, Advance, DemandClock, DemandUnix}
 

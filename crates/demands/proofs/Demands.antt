@@ -8,9 +8,9 @@ use denote.Ref.{RefT, now}
 use lib.ListN.{length}
 use Rattle.rows.specs.Rows.{NoneApplies}
 use Rattle.clock.specs.declared.Clock.{Clock}
-use Rattle.clock.specs.declared.Units.{Units}
+use Rattle.unix.specs.declared.Units.{Units}
 use Rattle.clock.specs.Clock.{startOf, advanceOf, arrivalOf}
-use Rattle.clock.specs.Unix.{unixOf}
+use Rattle.unix.specs.Unix.{unixOf}
 use Rattle.written.specs.declared.Block.{Block}
 use Rattle.written.specs.Bytes.{blockBytes}
 use Rattle.tables.specs.Tables.{interfaceOf}
@@ -19,11 +19,11 @@ use Rattle.written.proofs.Laws.{ipv4-writes}
 use Rattle.sending.proofs.Laws.{sent-on-fits}
 use Rattle.sending.specs.Answer.{sentOn, sentHome, sentBy}
 use Rattle.engine.specs.Step.{stepOf}
-use Rattle.reply.specs.declared.Standard.{Standard}
+use Rattle.standard.specs.declared.Standard.{Standard}
 use Rattle.reply.specs.declared.Handed.{Handed}
 use Rattle.reply.specs.declared.Reader.{Reader}
 use Rattle.reply.specs.Check.{Readable}
-use Rattle.reply.specs.Standard.{standardOf}
+use Rattle.standard.specs.Standard.{standardOf}
 use Rattle.reply.specs.Reader.{Opens, Calls, blocksOut}
 use Rattle.yard.specs.Walk.{Visit, walkRows}
 use Rattle.demands.specs.Engine.{Engine, Call, run, rows, EngineMeets}

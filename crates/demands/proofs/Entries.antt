@@ -18,7 +18,7 @@ use native.Mathlib.Nat.{zero-add}
 use lib.Dec.{lit≤}
 use Rattle.clock.specs.declared.Tick.{Tick}
 use Rattle.clock.specs.Clock.{clockOf, startOf, advanceOf, arrivalOf}
-use Rattle.clock.specs.Unix.{unixOf}
+use Rattle.unix.specs.Unix.{unixOf}
 use Rattle.drops.specs.Arrival.{arrival}
 use Rattle.drops.specs.Drop.{dropRoom}
 use Rattle.sending.specs.Answer.{sentHome}

@@ -30,11 +30,11 @@ use Rattle.sending.specs.Answer.{Sent, sentHome, fullMessage, longerMessage, se
 use Rattle.engine.specs.Step.{stepOf}
 use Rattle.sending.proofs.Laws.{sent-cases, longer-as, room-most}
 use Rattle.engine.proofs.Laws.{taken-room}
-use Rattle.reply.specs.declared.Standard.{Standard}
+use Rattle.standard.specs.declared.Standard.{Standard}
 use Rattle.reply.specs.declared.Handed.{Handed}
 use Rattle.reply.specs.declared.Reader.{Reader}
 use Rattle.reply.specs.Check.{Readable}
-use Rattle.reply.specs.Standard.{sBit, standardOf, noStandard}
+use Rattle.standard.specs.Standard.{sBit, standardOf, noStandard}
 use Rattle.reply.specs.Reader.{standardsIn, blocksIn, Opens, Calls, blocksOut}
 use Rattle.reply.proofs.Laws.{Known, known-readable, readable-blocks, reads-all}
 use Rattle.yard.specs.Walk.{Visit, notSent, rowsFor, sentFor, sentAt, walkRows}

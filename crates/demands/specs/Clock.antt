@@ -6,9 +6,9 @@ use mathlib.Core.Logic.{_⊎_}
 use mathlib.Core.Path.{_≡_}
 use Rattle.clock.specs.declared.Clock.{Clock}
 use Rattle.clock.specs.declared.Tick.{Tick}
-use Rattle.clock.specs.declared.Units.{Units}
+use Rattle.unix.specs.declared.Units.{Units}
 use Rattle.clock.specs.Clock.{lastTime, clockReading, clockState, clockOf, issued, refusedTick, arrivalTimes}
-use Rattle.clock.specs.Unix.{clockUnix, lastSecond, secondNanos, unitsFor, converted, refusedUnits}
+use Rattle.unix.specs.Unix.{clockUnix, lastSecond, secondNanos, unitsFor, converted, refusedUnits}
 use Rattle.clock.specs.Readings.{afterBy, issuesBy, allIssuesBy, Sound, RiseAbove, NeverTwice, lead, RoseByTwo, Shrunk}
 
 -- a clock: starting it from a reading, and each new reading of it

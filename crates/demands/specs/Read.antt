@@ -10,8 +10,8 @@ use Rattle.forwarding.specs.Code.{codeNoSpace}
 use Rattle.written.specs.Bytes.{blockBytes}
 use Rattle.header.specs.Format.{codeOffset}
 use Rattle.message.specs.Room.{Full, HasRoom}
-use Rattle.reply.specs.declared.Standard.{Standard}
-use Rattle.reply.specs.Standard.{sBit, standardOf, noStandard}
+use Rattle.standard.specs.declared.Standard.{Standard}
+use Rattle.standard.specs.Standard.{sBit, standardOf, noStandard}
 use Rattle.yard.specs.Walk.{Visit}
 use Rattle.demands.specs.Engine.{BlockOf}
 use Rattle.demands.specs.Walk.{callAt, nth, lastReceived, lastRoom}

@@ -6,7 +6,7 @@ use lib.Dec.{ltb, eqb}
 use lib.ListN.{replicate}
 use Rattle.rows.specs.Rows.{Row, row, byFirst}
 use Rattle.wire.specs.Numbers.{bytes64}
-use Rattle.reply.specs.declared.Standard.{Standard}
+use Rattle.standard.specs.declared.Standard.{Standard}
 use Rattle.link.specs.declared.Count.{Count}
 use Rattle.link.specs.declared.Tally.{Tally}
 use Rattle.link.specs.declared.Link.{Link}

@@ -1,5 +1,5 @@
 // One link between two Replies: the first name that applies to its counts, or what was lost on it.
-use reply::Standard;
+use standard::Standard;
 ghost use mathlib.Core.Path.{_≡_};
 ghost use Rattle.link.specs.Link.{countOf, notCounted, linkOf, noTally, verdictOf, tallyOf};
 

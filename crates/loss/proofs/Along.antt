@@ -11,7 +11,7 @@ use lib.ListN.{length}
 use Rattle.header.specs.Format.{headerSize, standardSize}
 use Rattle.message.specs.Inside.{standardsFrom}
 use Rattle.rows.proofs.Laws.{both-true, both-of, decided}
-use Rattle.reply.specs.Standard.{standardIn}
+use Rattle.standard.specs.Standard.{standardIn}
 use Rattle.reply.specs.Reader.{standardsIn}
 use Rattle.reply.specs.Inside.{firstOr, Settled, FillsFrom}
 use Rattle.reply.proofs.Laws.{leftFrom, left-all, settled, settled-same, settled-forth, settled-high, settled-over, settled-inside, settled-more, fills-behind}

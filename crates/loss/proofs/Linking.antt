@@ -16,8 +16,8 @@ use Rattle.message.specs.Blocks.{standards}
 use Rattle.message.specs.Inside.{standardsFrom}
 use Rattle.message.proofs.Laws.{all-standards, standards-fit}
 use Rattle.rows.proofs.Laws.{both-of, decided}
-use Rattle.reply.specs.declared.Standard.{Standard}
-use Rattle.reply.specs.Standard.{standardIn}
+use Rattle.standard.specs.declared.Standard.{Standard}
+use Rattle.standard.specs.Standard.{standardIn}
 use Rattle.reply.specs.Reader.{standardsIn}
 use Rattle.reply.specs.Inside.{firstOr, Settled, FillsFrom}
 use Rattle.reply.proofs.Laws.{leftFrom, left-all, settled, settled-same, settled-forth, settled-over, settled-inside, settled-more, fills-behind}

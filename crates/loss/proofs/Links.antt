@@ -9,7 +9,7 @@ use borrow.Author.Tests.{lt-ltb, ltb-false}
 use lib.ListN.{length}
 use Rattle.rows.specs.Rows.{NoneApplies, IsFirst, byFirst, firstOf}
 use Rattle.rows.proofs.Laws.{neither-of, both-of, first-is, none-is}
-use Rattle.reply.specs.declared.Standard.{Standard}
+use Rattle.standard.specs.declared.Standard.{Standard}
 use Rattle.reply.specs.Reader.{standardsIn}
 use Rattle.link.specs.declared.Count.{Count}
 use Rattle.link.specs.declared.Link.{Link}

@@ -7,7 +7,7 @@ use lib.Dec.{eqb, lit≤}
 use Rattle.wire.specs.Numbers.{be32, be64}
 use Rattle.wire.proofs.Laws.{be-part}
 use Rattle.header.specs.Format.{standardSize, outgoingOffset, upstreamOffset}
-use Rattle.reply.specs.Standard.{inputOffset, outputOffset, standardOf, standardIn}
+use Rattle.standard.specs.Standard.{inputOffset, outputOffset, standardOf, standardIn}
 use Rattle.loss.specs.Path.{sameRouter}
 use Rattle.link.specs.Link.{countOf}
 

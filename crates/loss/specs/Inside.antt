@@ -5,7 +5,7 @@ use mathlib.Core.List.{List}
 use lib.ListN.{length}
 use Rattle.header.specs.Format.{headerSize}
 use Rattle.message.specs.Blocks.{standardCount}
-use Rattle.reply.specs.Standard.{standardIn}
+use Rattle.standard.specs.Standard.{standardIn}
 use Rattle.reply.specs.Inside.{FillsFrom}
 use Rattle.link.specs.declared.Link.{Link}
 use Rattle.link.specs.Link.{countOf, linkOf}

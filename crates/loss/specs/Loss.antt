@@ -5,7 +5,7 @@ use lib.Dec.{ltb}
 use lib.ListN.{length}
 use Rattle.rows.specs.Rows.{Row, row, byFirst}
 use Rattle.wire.specs.Parts.{splice}
-use Rattle.reply.specs.declared.Standard.{Standard}
+use Rattle.standard.specs.declared.Standard.{Standard}
 use Rattle.reply.specs.Reader.{standardsIn}
 use Rattle.link.specs.declared.Link.{Link}
 use Rattle.loss.specs.Path.{pairRows}

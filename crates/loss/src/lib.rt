@@ -7,7 +7,7 @@ ghost use lib.ListN.{length};
 ghost use Rattle.rows.specs.Rows.{firstOf};
 ghost use Rattle.wire.specs.Parts.{splice};
 ghost use Rattle.header.specs.Format.{headerSize, standardSize, most};
-ghost use Rattle.reply.specs.Standard.{standardIn};
+ghost use Rattle.standard.specs.Standard.{standardIn};
 ghost use Rattle.reply.specs.Reader.{standardsIn};
 ghost use Rattle.reply.specs.Inside.{FillsFrom};
 ghost use Rattle.loss.specs.Path.{samePath, sameRouter, pairRows};
@@ -35,8 +35,8 @@ fn count_at(s: &[u8], near: usize, far: usize) -> Count
     ensures { λ r. ⌜ r ≡ countOf (standardIn (now (s .entry)) near) (standardIn (now (s .entry)) far) ⌝ }
 {
     Count {
-        sent: wire::be64(s, far + reply::OUTPUT_OFFSET),
-        received: wire::be64(s, near + reply::INPUT_OFFSET),
+        sent: wire::be64(s, far + standard::OUTPUT_OFFSET),
+        received: wire::be64(s, near + standard::INPUT_OFFSET),
     }
 }
 

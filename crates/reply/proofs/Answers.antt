@@ -18,7 +18,7 @@ use Rattle.message.specs.Blocks.{blocksFrom, blocksOf, standardBlocks}
 use Rattle.message.specs.Inside.{blockAt, standardsFrom}
 use Rattle.message.proofs.Laws.{all-standards, blocks-on, size-standard, standards-more, standards-same, first-inside, first-parts}
 use Rattle.reply.specs.Check.{replyRows, Readable}
-use Rattle.reply.specs.Standard.{standardOf}
+use Rattle.standard.specs.Standard.{standardOf}
 use Rattle.reply.specs.Reader.{nextFrom}
 use Rattle.reply.specs.Copy.{beginsAt, isPlace, copied, copiedOut, copiedNext, copiedBy}
 use Rattle.reply.specs.Inside.{FillsFrom}

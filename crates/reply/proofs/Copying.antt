@@ -15,7 +15,7 @@ use Rattle.rows.specs.Rows.{firstOf}
 use Rattle.rows.proofs.Laws.{given-alone, none-alone}
 use Rattle.reply.specs.declared.Handed.{Handed}
 use Rattle.reply.specs.Check.{replyRows}
-use Rattle.reply.specs.Standard.{standardOf, standardIn, noStandard}
+use Rattle.standard.specs.Standard.{standardOf, standardIn, noStandard}
 use Rattle.reply.specs.Reader.{nextFrom}
 use Rattle.reply.specs.Copy.{isPlace, isReadable, copied, copiedOut, copiedNext}
 use Rattle.reply.specs.Inside.{firstOr}

@@ -6,7 +6,6 @@ mod Rows
 mod Readable
 mod Places
 mod Search
-mod Fields
 mod Filled
 mod Starts
 mod Copying

@@ -16,10 +16,10 @@ use Rattle.message.proofs.Laws.{all-standards, first-parts}
 use Rattle.reply.proofs.Places.{end-none}
 use Rattle.rows.specs.Rows.{firstOf}
 use Rattle.rows.proofs.Laws.{first-or-none, first-is, none-is}
-use Rattle.reply.specs.declared.Standard.{Standard}
+use Rattle.standard.specs.declared.Standard.{Standard}
 use Rattle.reply.specs.declared.Handed.{Handed}
 use Rattle.reply.specs.declared.Reader.{Reader}
-use Rattle.reply.specs.Standard.{standardOf, standardIn}
+use Rattle.standard.specs.Standard.{standardOf, standardIn}
 use Rattle.reply.specs.Check.{replyRows, Readable}
 use Rattle.reply.specs.Reader.{standardsIn, blocksIn, startOf, handedBy, nextFrom, Opens, Calls, not-again, again, blocksOut}
 use Rattle.format.specs.Sizes.{ipv4, ipv4-sound}

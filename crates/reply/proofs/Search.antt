@@ -10,8 +10,8 @@ use Rattle.header.specs.Format.{standard, standardSize}
 use Rattle.message.specs.declared.BlockHead.{BlockHead}
 use Rattle.message.specs.Inside.{noBlock, blockAt, standardsFrom}
 use Rattle.message.proofs.Laws.{standards-over, standards-more, standards-same, none-short, first-inside}
-use Rattle.reply.specs.declared.Standard.{Standard}
-use Rattle.reply.specs.Standard.{standardIn, noStandard}
+use Rattle.standard.specs.declared.Standard.{Standard}
+use Rattle.standard.specs.Standard.{standardIn, noStandard}
 use Rattle.reply.specs.Reader.{handedBy, nextFrom}
 use Rattle.reply.specs.Inside.{firstOr}
 use Rattle.format.specs.Sizes.{ipv4, ipv4-sound}

@@ -8,11 +8,11 @@ use denote.Ref.{RefT, now}
 use Rattle.rows.specs.Rows.{byFirst}
 use Rattle.header.specs.Format.{headerSize, standardSize}
 use Rattle.message.specs.Blocks.{blocksFrom, standardPlaces, standardBlocks}
-use Rattle.reply.specs.declared.Standard.{Standard}
+use Rattle.standard.specs.declared.Standard.{Standard}
 use Rattle.reply.specs.declared.Handed.{Handed}
 use Rattle.reply.specs.declared.Reader.{Reader}
 use Rattle.reply.specs.Check.{replyRows}
-use Rattle.reply.specs.Standard.{standardOf, standardIn, noStandard}
+use Rattle.standard.specs.Standard.{standardOf, standardIn, noStandard}
 use Rattle.format.specs.Sizes.{ipv4}
 
 -- the type 4 blocks of a message, in their order

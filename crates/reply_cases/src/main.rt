@@ -4,7 +4,7 @@ use link::Link;
 use link::Tally;
 use reply::Handed;
 use reply::Reader;
-use reply::Standard;
+use standard::Standard;
 ghost use mathlib.Core.Path.{_≡_};
 ghost use Prim.Native.Nat.{_+_, _≤_};
 ghost use Rattle.io.specs.Counts.{Counts};

@@ -1,7 +1,7 @@
 -- Laws of what the entries promise.
 use mathlib.Core.Path.{_≡_, sym, _∙_}
-use Rattle.clock.specs.Unix.{clockUnix, unixOf}
-use Rattle.clock.proofs.Laws.{unix-zero}
+use Rattle.unix.specs.Unix.{clockUnix, unixOf}
+use Rattle.unix.proofs.Laws.{unix-zero}
 use Rattle.servicebough.proofs.bough_clock_unix.Reads as bough_clock_unix
 
 -- 0 units are answered exactly where the UNIX time is refused

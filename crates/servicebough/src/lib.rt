@@ -7,7 +7,7 @@ ghost use mathlib.Core.Path.{_≡_};
 ghost use Prim.Native.Nat.{_≤_};
 ghost use lib.ListN.{length};
 ghost use Rattle.clock.specs.Clock.{clockOf, startOf, advanceOf, arrivalOf};
-ghost use Rattle.clock.specs.Unix.{unixOf};
+ghost use Rattle.unix.specs.Unix.{unixOf};
 ghost use Rattle.drops.specs.Arrival.{arrival};
 ghost use Rattle.engine.specs.Step.{outcome, StepMeets};
 ghost use Rattle.yard.specs.Walk.{visit, walkOf};
@@ -69,7 +69,7 @@ pub extern "C" fn bough_clock_advance(r: u64, y: u64, reading: u64, out: &mut [u
 pub extern "C" fn bough_clock_unix(seconds: u64, nanoseconds: u64) -> u64
     ensures { λ u. ⌜ u ≡ unixOf seconds nanoseconds .units ⌝ }
 {
-    let u = clock::unix(seconds, nanoseconds);
+    let u = unix::unix(seconds, nanoseconds);
     u.units
 }
 

@@ -4,7 +4,7 @@ use Rattle.wire.specs.Numbers.{be, bytes}
 use Rattle.wire.specs.Parts.{splice, allZero, blank}
 use Rattle.rows.specs.Rows.{byFirst}
 use Rattle.clock.specs.Clock.{timeFor, startOf, advanceOf}
-use Rattle.clock.specs.Unix.{unixOf}
+use Rattle.unix.specs.Unix.{unixOf}
 use Rattle.clock.specs.Readings.{afterBy, issuesBy}
 use Rattle.block.specs.Sum.{carried, sumFrom, sumOk}
 use Rattle.block.specs.Block.{frameOk}

@@ -8,7 +8,7 @@ use lib.Dec.{eqb}
 use lib.ListN.{length}
 use Rattle.wire.specs.Numbers.{byteAt}
 use Rattle.clock.specs.Clock.{startOf, arrivalOf}
-use Rattle.clock.specs.Unix.{unixOf}
+use Rattle.unix.specs.Unix.{unixOf}
 use Rattle.clock.specs.Readings.{issues, times}
 use Rattle.header.specs.Format.{codeOffset}
 use Rattle.message.specs.Blocks.{standards, standardCount}

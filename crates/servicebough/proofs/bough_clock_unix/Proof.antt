@@ -1,7 +1,7 @@
 -- `bough_clock_unix`: the units of what the conversion gave.
 use mathlib.Core.Path.{ap}
 use borrow.Author.Needs.{needs}
-use Rattle.clock.specs.declared.Units.{Units}
+use Rattle.unix.specs.declared.Units.{Units}
 use Rattle.servicebough.proofs.bough_clock_unix.Statement.{statement}
 use Rattle.servicebough.proofs.bough_clock_unix.Tie as tie
 

@@ -1,8 +1,8 @@
 -- `standard_at`: the bytes copied are the block's.
-use Rattle.reply.proofs.Fields.{copied}
+use Rattle.standard.proofs.Fields.{copied}
 use borrow.Author.Needs.{needs}
-use Rattle.reply.proofs.standard_at.Statement.{statement}
-use Rattle.reply.proofs.standard_at.Tie as tie
+use Rattle.standard.proofs.standard_at.Statement.{statement}
+use Rattle.standard.proofs.standard_at.Tie as tie
 
 returns : tie.Need-returns
 returns c = copied _ _ _ _ (c .before .before .before .before .before .before .pre) (c .before .before .copy-to .ensures) (c .standard-of .ensures)

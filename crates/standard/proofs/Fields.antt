@@ -9,8 +9,8 @@ use Rattle.wire.specs.Numbers.{byteAt, be16, be32, be64}
 use Rattle.wire.specs.Parts.{part, splice}
 use Rattle.wire.proofs.Laws.{splice-front}
 use Rattle.header.specs.Format.{standardSize, incomingOffset, outgoingOffset, upstreamOffset, codeOffset}
-use Rattle.reply.specs.declared.Standard.{Standard}
-use Rattle.reply.specs.Standard.{inputOffset, outputOffset, maskOffset, sBit, standardOf, standardIn}
+use Rattle.standard.specs.declared.Standard.{Standard}
+use Rattle.standard.specs.Standard.{inputOffset, outputOffset, maskOffset, sBit, standardOf, standardIn}
 
 -- each field is what was read at its place
 pub fields-of : (bytes : List ℕ) (time incoming outgoing upstream input output total routing multicast : ℕ)

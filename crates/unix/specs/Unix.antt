@@ -4,7 +4,7 @@ use mathlib.Core.Bool.{_||_}
 use mathlib.Core.List.{List, [], _∷_}
 use lib.Dec.{leb, ltb}
 use Rattle.rows.specs.Rows.{Row, row, byFirst}
-use Rattle.clock.specs.declared.Units.{Units}
+use Rattle.unix.specs.declared.Units.{Units}
 
 -- refused for the UNIX time
 abbrev pub clockUnix : ℕ

@@ -3,9 +3,9 @@ use mathlib.Core.Logic.{⊎-elim}
 use Rattle.rows.specs.Rows.{byFirst}
 use Rattle.rows.proofs.Laws.{first}
 use borrow.Author.Needs.{needs}
-use Rattle.clock.specs.Unix.{unixOf}
-use Rattle.clock.proofs.unix.Statement.{statement}
-use Rattle.clock.proofs.unix.Tie as tie
+use Rattle.unix.specs.Unix.{unixOf}
+use Rattle.unix.proofs.unix.Statement.{statement}
+use Rattle.unix.proofs.unix.Tie as tie
 
 returns : tie.Need-returns
 unfolding unixOf byFirst

@@ -6,7 +6,7 @@ use lib.ListN.{replicate}
 use Rattle.wire.specs.Numbers.{byteAt, be16, be32, be64}
 use Rattle.wire.specs.Parts.{part}
 use Rattle.header.specs.Format.{standardSize, incomingOffset, outgoingOffset, upstreamOffset, codeOffset}
-use Rattle.reply.specs.declared.Standard.{Standard}
+use Rattle.standard.specs.declared.Standard.{Standard}
 
 -- the places of the counts in it
 abbrev pub inputOffset : ℕ

@@ -1,8 +1,8 @@
 -- `standard_of`: each field is what was read at its place.
-use Rattle.reply.proofs.Fields.{fields-of}
+use Rattle.standard.proofs.Fields.{fields-of}
 use borrow.Author.Needs.{needs}
-use Rattle.reply.proofs.standard_of.Statement.{statement}
-use Rattle.reply.proofs.standard_of.Tie as tie
+use Rattle.standard.proofs.standard_of.Statement.{statement}
+use Rattle.standard.proofs.standard_of.Tie as tie
 
 returns : tie.Need-returns
 returns c = search fields-of

@@ -1,0 +1,4 @@
+-- Each promise leaves one answer.
+pub mod Determined
+-- A block out of what was read.
+mod Fields

@@ -1,0 +1,2 @@
+-- UNIX time to units (document 01, "Clock").
+pub mod Unix
