@@ -28,7 +28,7 @@ use Rattle.header.specs.Format.{standardSize}
 use Rattle.message.specs.Blocks.{standardCount}
 use Rattle.message.specs.Room.{isFull}
 use Rattle.message.proofs.Laws.{standard-blocks-count}
-use Rattle.servicebough.specs.Ticks.{tickSize, tickBytes, TickMeets}
+use Rattle.ticks.specs.Ticks.{tickSize, tickBytes, TickMeets}
 use Rattle.servicebough.specs.Answers.{Handed, handed, answerLeft, walkedBytes, walkHanded, answerSize}
 use Rattle.servicebough.proofs.bough_clock_start.Statement as clock-start
 use Rattle.servicebough.proofs.bough_clock_start.Met as clock-start-proof

@@ -11,7 +11,7 @@ use Rattle.message.specs.Blocks.{standardCount}
 use Rattle.drops.specs.Arrival.{arrival}
 use Rattle.drops.specs.Drop.{dropRoom}
 use Rattle.sending.specs.Answer.{sentHome}
-use Rattle.servicebough.specs.Ticks.{tickSize}
+use Rattle.ticks.specs.Ticks.{tickSize}
 use Rattle.servicebough.specs.Answers.{answerSize}
 use Rattle.yard.specs.Walk.{Visit}
 use Rattle.demands.specs.Engine.{Call}

@@ -1,15 +1,12 @@
 -- Two answers that meet an entry's promise are equal, and so are the bytes that they leave.
 use denote.Ref.{now}
-use Prim.Native.Nat.{ℕ}
-use mathlib.Core.List.{List}
 use Rattle.reply.specs.Copy.{copied}
 use Rattle.loss.specs.Loss.{written}
 use mathlib.Core.Path.{_≡_}
 use Rattle.rows.proofs.Laws.{both-are}
-use Rattle.clock.specs.declared.Tick.{Tick}
 use Rattle.engine.specs.Step.{outcome}
-use Rattle.servicebough.specs.Ticks.{TickMeets}
 use Rattle.servicebough.specs.Answers.{handed}
+use Rattle.ticks.proofs.Determined.{tick-settled}
 use Rattle.servicebough.proofs.bough_clock_start.Reads as bough_clock_start
 use Rattle.servicebough.proofs.bough_clock_advance.Reads as bough_clock_advance
 use Rattle.servicebough.proofs.bough_clock_unix.Reads as bough_clock_unix
@@ -20,9 +17,6 @@ use Rattle.servicebough.proofs.bough_reply_next.Reads as bough_reply_ne
 use Rattle.servicebough.proofs.bough_reply_loss.Reads as bough_reply_loss
 use Rattle.servicebough.proofs.bough_arrival_difference.Reads as bough_arrival_difference
 use Rattle.servicebough.proofs.bough_walk.Reads as bough_walk
-
-tick-settled : {k : Tick} {out left left′ : List ℕ} {n m : ℕ} → TickMeets k out n left → TickMeets k out m left′ → (n ≡ m) × (left ≡ left′)
-tick-settled a b = (both-are (a .number) (b .number), both-are (a .bytes) (b .bytes))
 
 pub bough-clock-start-determined : (κs : _) (a : _) (x y : _) (e f : _) → bough_clock_start.Post κs a x e → bough_clock_start.Post κs a y f
     → (x ≡ y) × (now (e .1 .0) ≡ now (f .1 .0))

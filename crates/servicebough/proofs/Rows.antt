@@ -1,4 +1,4 @@
--- The ways out of handing over what a reading or a walk gave, over plain values.
+-- The ways out of handing over what a walk gave, over plain values.
 use Prim.Native.Nat.{ℕ, _≤_, _<_}
 use mathlib.Core.Path.{_≡_}
 use mathlib.Core.List.{List}
@@ -6,38 +6,17 @@ use native.Mathlib.Omega.{arith}
 use lib.ListN.{length}
 use borrow.Author.Tests.{lt-ltb, le-ltb}
 use Rattle.rows.specs.Rows.{byFirst}
-use Rattle.rows.proofs.Laws.{first}
-use Rattle.wire.specs.Numbers.{bytes32, bytes64}
+use Rattle.wire.specs.Numbers.{bytes32}
 use Rattle.wire.specs.Parts.{splice}
 use Rattle.clock.specs.declared.Tick.{Tick}
 use Rattle.sending.specs.Answer.{sentHome}
 use Rattle.yard.specs.declared.Walked.{Walked}
 use Rattle.yard.specs.Walk.{Walk, Tells}
 use Rattle.drops.specs.Drop.{dropRoom}
-use Rattle.servicebough.specs.Ticks.{tickSize, tickBytes, TickMeets}
+use Rattle.ticks.specs.Ticks.{TickMeets}
 use Rattle.servicebough.specs.Answers.{answerSize, walkedBytes, answerLeft, handed, walkHanded}
-use Rattle.wire.proofs.Behind.{three-written, four-written}
+use Rattle.wire.proofs.Behind.{four-written}
 use Rattle.format.specs.Sizes.{ipv4}
-
-module _ (k : Tick) (out : List ℕ) where
-  -- too little room
-  pub no-room : length out < tickSize → TickMeets k out dropRoom out
-  unfolding byFirst
-  no-room h = record { number = search first; bytes = search first }
-
-  module _ (room : tickSize ≤ length out) where
-    -- refused by the clock
-    pub handed-on : (k .number ≡ 0 → ⊥) → TickMeets k out (k .number) out
-    unfolding byFirst
-    handed-on h = record { number = search first; bytes = search first }
-
-    -- accepted
-    pub written : (a b c : List ℕ) → k .number ≡ 0 → a ≡ splice out 0 (bytes64 (k .clock .r)) → b ≡ splice a 8 (bytes64 (k .clock .y))
-        → c ≡ splice b 16 (bytes64 (k .time)) → TickMeets k out 0 c
-    unfolding byFirst tickBytes
-    written a b c h ea eb ec =
-        let all = three-written 3 0 (k .clock .r) (k .clock .y) out a b ea eb (k .time) c ec (omega arith) in
-        record { number = simp (le-ltb _ _ room, h); bytes = simp (le-ltb _ _ room, h) all }
 
 -- what a reading gave, by its definition
 pub of-tick : (k k′ : Tick) (out left : List ℕ) (n : ℕ) → k ≡ k′ → TickMeets k out n left → TickMeets k′ out n left

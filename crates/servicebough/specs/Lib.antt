@@ -1,3 +1,2 @@
 -- What the entries for C hand over beyond the definitions of the crates below.
-pub mod Ticks
 pub mod Answers

@@ -1,7 +1,6 @@
 // What a host written in C or Rust calls. Numbers pass as themselves, a slice as a pointer and a length; no entry asks anything of
 // its caller but that what is written overlaps nothing else.
 use clock::Clock;
-use clock::Tick;
 use yard::Walked;
 ghost use mathlib.Core.Path.{_≡_};
 ghost use Prim.Native.Nat.{_≤_};
@@ -16,43 +15,19 @@ ghost use Rattle.reply.specs.Check.{replyRows};
 ghost use Rattle.reply.specs.Copy.{copied, copiedNext};
 ghost use Rattle.loss.specs.Loss.{written, lossOf};
 ghost use Rattle.arrivals.specs.Difference.{differenceOf};
-ghost use Rattle.servicebough.specs.Ticks.{TickMeets};
+ghost use Rattle.ticks.specs.Ticks.{TickMeets};
 ghost use Rattle.servicebough.specs.Answers.{answerSize, answerLeft, handed, walkHanded};
 ghost use Rattle.format.specs.Sizes.{ipv4};
 
-// Bytes lent for the clock's r, y and time, and for the answer of a walk.
-const TICK_SIZE: usize = 24;
-
+// Bytes lent for the answer of a walk.
 const ANSWER_SIZE: usize = 16;
-
-// Where y and the time issued go, behind r.
-const TICK_Y: usize = 8;
-
-const TICK_TIME: usize = 16;
-
-// Hands over what a reading gave: its number and, unless it was refused, 24 bytes.
-fn hand_over(k: Tick, out: &mut [u8]) -> u32
-    ensures { λ n. ⌜ TickMeets k (now (out .entry)) n (now (out .exit)) ⌝ }
-{
-    if out.len() < TICK_SIZE {
-        return drops::DROP_ROOM;
-    }
-    if k.number != 0 {
-        return k.number;
-    }
-    let c = k.clock;
-    wire::put64(out, 0, c.r);
-    wire::put64(out, TICK_Y, c.y);
-    wire::put64(out, TICK_TIME, k.time);
-    0
-}
 
 // Starts a clock.
 #[no_mangle]
 pub extern "C" fn bough_clock_start(reading: u64, out: &mut [u8]) -> u32
     ensures { λ n. ⌜ TickMeets (startOf reading) (now (out .entry)) n (now (out .exit)) ⌝ }
 {
-    hand_over(Clock::start(reading), out)
+    ticks::hand_over(Clock::start(reading), out)
 }
 
 // Advances the clock (r, y).
@@ -61,7 +36,7 @@ pub extern "C" fn bough_clock_advance(r: u64, y: u64, reading: u64, out: &mut [u
     ensures { λ n. ⌜ TickMeets (advanceOf (clockOf r y) reading) (now (out .entry)) n (now (out .exit)) ⌝ }
 {
     let c = Clock { r, y };
-    hand_over(c.advance(reading), out)
+    ticks::hand_over(c.advance(reading), out)
 }
 
 // UNIX time to units; 0 where it is refused.

@@ -1,8 +1,8 @@
 -- `hand_over`: each way out is a row of the promise.
 use borrow.Author.Needs.{needs}
-use Rattle.servicebough.proofs.Rows.{no-room, handed-on, written}
-use Rattle.servicebough.proofs.hand_over.Statement.{statement}
-use Rattle.servicebough.proofs.hand_over.Tie as tie
+use Rattle.ticks.proofs.Rows.{no-room, handed-on, written}
+use Rattle.ticks.proofs.hand_over.Statement.{statement}
+use Rattle.ticks.proofs.hand_over.Tie as tie
 
 returns : tie.Need-returns
 returns c = search no-room

@@ -1,0 +1,2 @@
+-- The clock as C calls it.
+pub mod Ticks
