@@ -2,11 +2,7 @@
 use denote.Ref.{now}
 use mathlib.Core.Path.{_≡_}
 use Rattle.rows.proofs.Laws.{both-are}
-use Rattle.text.proofs.blank.Reads as blank
 use Rattle.text.proofs.text_of.Reads as text-of
-
-pub blank-determined : (κs : _) (a : _) (x y : _) (e f : _) → blank.Post κs a x e → blank.Post κs a y f → x ≡ y
-blank-determined κs a x y e f p q = both-are p q
 
 pub text-of-determined : (κs : _) (a : _) (x y : _) (e f : _) → text-of.Post κs a x e → text-of.Post κs a y f
     → (x ≡ y) × (now (e .1 .0) ≡ now (f .1 .0))

@@ -1,8 +1,7 @@
 -- What may be said of every text; and that the promise leaves one.
 pub mod Laws
 pub mod Determined
--- Bytes written one behind the other, what is read of an input, the lines of a message, and the whole text.
+-- Bytes written one behind the other, the lines of a message, and the whole text.
 mod Written
-mod Given
 mod Passed
 mod Told

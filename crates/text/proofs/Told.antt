@@ -12,7 +12,7 @@ use Rattle.header.specs.Format.{most}
 use Rattle.message.specs.Blocks.{standardBlocks}
 use Rattle.yard.specs.declared.Walked.{Walked}
 use Rattle.yard.specs.Walk.{Walk, Tells}
-use Rattle.text.specs.Input.{walkFor}
+use Rattle.input.specs.Input.{walkFor}
 use Rattle.text.specs.Text.{linesOf, firstLine, walkText, textOf, mostFirst, mostLines, textSize}
 use Rattle.text.specs.Inside.{Written}
 use Rattle.text.proofs.Written.{then}

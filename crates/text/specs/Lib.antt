@@ -1,5 +1,4 @@
--- What the program `walk` reads, and what it prints.
-pub mod Input
+-- What the program `walk` prints.
 pub mod Ascii
 pub mod Text
 pub mod Inside

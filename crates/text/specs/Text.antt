@@ -11,7 +11,7 @@ use Rattle.sending.specs.Answer.{sentHome}
 use Rattle.yard.specs.declared.Walked.{Walked}
 use Rattle.yard.specs.Walk.{Walk, walkedOf}
 use Rattle.text.specs.Ascii.{ascii}
-use Rattle.text.specs.Input.{walkFor}
+use Rattle.input.specs.Input.{walkFor}
 use Rattle.format.specs.Sizes.{ipv4}
 
 -- the character 0

@@ -1,28 +1,16 @@
-// What the program `walk` reads and prints, as functions on slices: the walk that an input asks for, and its text.
+// What the program `walk` prints: the text of the walk that an input asks for.
 use yard::Walked;
 ghost use mathlib.Core.Path.{_≡_};
-ghost use Prim.Native.Nat.{_+_, _≤_, _<_, min};
+ghost use Prim.Native.Nat.{_+_, _≤_, _<_};
 ghost use mathlib.Core.Bool.{true, cond};
 ghost use mathlib.Core.List.{[], _∷_, _++_};
-ghost use lib.ListN.{length, replicate};
+ghost use lib.ListN.{length};
 ghost use Rattle.wire.specs.Parts.{splice};
 ghost use Rattle.header.specs.Format.{most, standardSize};
-ghost use Rattle.yard.specs.Yard.{mostRouters};
-ghost use Rattle.yard.specs.Walk.{Tells};
 ghost use Rattle.message.specs.Blocks.{standardBlocks};
-ghost use Rattle.text.specs.Input.{inputSize, headSize, headOf, timesOf, walkIn, walkFor};
 ghost use Rattle.text.specs.Text.{zeroDigit, decimal, number, octet, dotted, addresses, codeText, lineOf, linesOf, endText, firstLine, textOf, mostFirst, mostLine, mostLines, textSize};
 ghost use Rattle.text.specs.Inside.{Written};
-ghost use Rattle.format.specs.Sizes.{ipv4, outputSize};
-
-// The bytes that say where the Query arrives: router 2, interface 2, destination 4, TTL 1, and seven that are ignored.
-const START_SIZE: usize = 16;
-
-// The bytes before the yard: those, and the Query.
-const HEAD_SIZE: usize = START_SIZE + format::HEADER_SIZE;
-
-// No more is to be read: one byte more than the longest yard, so that a longer one is seen.
-const INPUT_SIZE: usize = HEAD_SIZE + yard::MOST_ROUTERS * yard::SHEET_SIZE + 1;
+ghost use Rattle.format.specs.Sizes.{ipv4};
 
 // No text is longer: a first line of at most 46 bytes, and a line of at most 78 for each of 27 blocks.
 pub const TEXT_SIZE: usize = 46 + 78 * 27;
@@ -33,82 +21,6 @@ const ZERO_DIGIT: u8 = b'0';
 const OCTET_DIGITS: usize = 3;
 
 const NUMBER_DIGITS: usize = 10;
-
-// A byte as a wider number.
-fn wide(b: u8) -> u32
-    ensures { λ r. ⌜ r ≡ b ⌝ }
-{
-    b as u32
-}
-
-// The smaller of two numbers.
-fn least(a: usize, b: usize) -> usize
-    ensures { λ r. ⌜ (r ≡ min a b) × (r ≤ a) × (r ≤ b) ⌝ }
-{
-    if a < b { a } else { b }
-}
-
-// Zeros, for an input to be read into.
-pub fn blank() -> [u8; INPUT_SIZE]
-    ensures { λ r. ⌜ r ≡ replicate inputSize 0 ⌝ }
-{
-    [0u8; INPUT_SIZE]
-}
-
-// The first 36 bytes of the input; those that are missing are 0.
-fn head_of(input: &[u8]) -> [u8; HEAD_SIZE]
-    ensures { λ r. ⌜ r ≡ headOf (now (input .entry)) ⌝ }
-{
-    let n = least(HEAD_SIZE, input.len());
-    let mut head = [0u8; HEAD_SIZE];
-    wire::copy_to(&mut head, 0, &input[..n]);
-    head
-}
-
-// Router i has time 65536 * i.
-fn times_of() -> [u32; yard::MOST_ROUTERS]
-    ensures { λ r. ⌜ r ≡ timesOf mostRouters ⌝ }
-{
-    let mut times = [0u32; yard::MOST_ROUTERS];
-    let mut i: usize = 0;
-    while i < yard::MOST_ROUTERS {
-        times[i] = 65536 * (i as u32);
-        i += 1;
-    }
-    times
-}
-
-// Walks through a yard from where the first bytes say.
-fn walk_from(head: &[u8], yard: &[u8], output: &mut [u8]) -> Walked
-    requires { ⌜ (length (now head) ≡ headSize) × (length (now output) ≡ outputSize) ⌝ }
-    ensures { λ r. ⌜ Tells ipv4 (walkIn (now (head .entry)) (now (yard .entry))) (now (output .entry)) r (now (output .exit)) ⌝ }
-{
-    let times = times_of();
-    let router = wire::be16(head, 0) as u32;
-    let interface = wire::be16(head, 2) as u32;
-    let destination = wire::be32(head, 4);
-    let ttl = wide(head[8]);
-    yard::walk(
-        yard,
-        &times,
-        &head[START_SIZE..],
-        router,
-        interface,
-        destination,
-        ttl,
-        output,
-    )
-}
-
-// Walks as the input asks.
-fn walk(input: &[u8], output: &mut [u8]) -> Walked
-    requires { ⌜ length (now output) ≡ outputSize ⌝ }
-    ensures { λ r. ⌜ Tells ipv4 (walkFor (now (input .entry))) (now (output .entry)) r (now (output .exit)) ⌝ }
-{
-    let head = head_of(input);
-    let n = least(HEAD_SIZE, input.len());
-    walk_from(&head, &input[n..], output)
-}
 
 // The writers: each puts its bytes into the text from a place on, and answers the place behind them.
 fn word(w: &[u8], text: &mut [u8], at: usize) -> usize
@@ -280,7 +192,7 @@ pub fn text_of(input: &[u8], text: &mut [u8]) -> usize
     ensures { λ r. ⌜ now (text .exit) ≡ splice (now (text .entry)) 0 (textOf (now (input .entry))) ⌝ }
 {
     let mut output = [0u8; format::OUTPUT_SIZE];
-    let w = walk(input, &mut output);
+    let w = input::walk(input, &mut output);
     let n = w.length as usize;
     let next = first_line(w, text, 0);
     lines(&output[..n], text, next)

@@ -36,7 +36,7 @@ use Rattle.engine.specs.Step.{recentAfter, stepOf}
 use Rattle.yard.specs.Yard.{sheetAt, yardOk, lowestFrom, holderIn}
 use Rattle.yard.specs.Walk.{sentFor, endOf, walkBy, walkFrom, walkRows, walkOf}
 use Rattle.text.specs.Ascii.{ascii}
-use Rattle.text.specs.Input.{headOf, visitOf, timesOf, walkIn, walkFor}
+use Rattle.input.specs.Input.{headOf, visitOf, timesOf, walkIn, walkFor}
 use Rattle.text.specs.Text.{decimal, dotted, addresses, codeText, lineOf, linesOf, endText, firstLine, walkText, textOf}
 use Rattle.worked.specs.Example.{linkedRouters, standardsOf, requestWith, tracedIn, sheetBlockBytes, twoRouters, queryFor, traced, paperInput, paperText}
 

@@ -3,10 +3,10 @@ use Prim.Native.Nat.{_≤_, _-_}
 use mathlib.Core.Path.{_≡_, refl}
 use native.Mathlib.Omega.{arith}
 use lib.ListN.{length, take, length-set}
-use Rattle.text.specs.Input.{timesOf}
-use Rattle.text.proofs.Given.{time-set, times-set}
-use Rattle.text.proofs.times_of.Statement.{statement}
-use Rattle.text.proofs.times_of.Tie as tie
+use Rattle.input.specs.Input.{timesOf}
+use Rattle.input.proofs.Given.{time-set, times-set}
+use Rattle.input.proofs.times_of.Statement.{statement}
+use Rattle.input.proofs.times_of.Tie as tie
 
 abbrev Inv-loop : tie.InvT-loop
 Inv-loop times₀ i₀ times i = (i ≤ 32) × (length times ≡ 32) × (take i times ≡ timesOf i)

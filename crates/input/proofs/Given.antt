@@ -17,7 +17,7 @@ use Rattle.drops.specs.Arrival.{arrival}
 use Rattle.yard.specs.declared.Walked.{Walked}
 use Rattle.yard.specs.Yard.{mostRouters}
 use Rattle.yard.specs.Walk.{visit, Tells, WalkTells}
-use Rattle.text.specs.Input.{startSize, headSize, headOf, visitOf, timesOf, walkIn, walkFor}
+use Rattle.input.specs.Input.{startSize, headSize, headOf, visitOf, timesOf, walkIn, walkFor}
 use Rattle.format.specs.Sizes.{ipv4, outputSize}
 
 -- one time more

@@ -1,8 +1,8 @@
 -- `walk_from`: the numbers are read from their places.
-use Rattle.text.proofs.Given.{walk-from}
+use Rattle.input.proofs.Given.{walk-from}
 use borrow.Author.Needs.{needs}
-use Rattle.text.proofs.walk_from.Statement.{statement}
-use Rattle.text.proofs.walk_from.Tie as tie
+use Rattle.input.proofs.walk_from.Statement.{statement}
+use Rattle.input.proofs.walk_from.Tie as tie
 
 returns : tie.Need-returns
 returns c = search walk-from

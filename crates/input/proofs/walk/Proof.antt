@@ -1,8 +1,8 @@
 -- `walk`: what is read of the input is what it holds.
-use Rattle.text.proofs.Given.{walk-asked}
+use Rattle.input.proofs.Given.{walk-asked}
 use borrow.Author.Needs.{needs}
-use Rattle.text.proofs.walk.Statement.{statement}
-use Rattle.text.proofs.walk.Tie as tie
+use Rattle.input.proofs.walk.Statement.{statement}
+use Rattle.input.proofs.walk.Tie as tie
 
 returns : tie.Need-returns
 returns c = search walk-asked

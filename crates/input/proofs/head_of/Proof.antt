@@ -2,9 +2,9 @@
 use borrow.Author.Needs.{needs}
 use mathlib.Core.Path.{sym}
 use lib.Seq.{length-take-le}
-use Rattle.text.proofs.Given.{head-there, head-fits}
-use Rattle.text.proofs.head_of.Statement.{statement}
-use Rattle.text.proofs.head_of.Tie as tie
+use Rattle.input.proofs.Given.{head-there, head-fits}
+use Rattle.input.proofs.head_of.Statement.{statement}
+use Rattle.input.proofs.head_of.Tie as tie
 
 slice-aggregate-copy-to-2 : tie.Need-slice-aggregate-copy-to-2
 slice-aggregate-copy-to-2 c = sym (length-take-le _ _ (c .before .before .least .ensures .2))

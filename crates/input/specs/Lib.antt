@@ -1,0 +1,2 @@
+-- What the program `walk` reads.
+pub mod Input
