@@ -13,7 +13,7 @@ use Rattle.sheet.specs.Sheet.{layoutOf}
 use Rattle.tables.specs.Tables.{interfaceOf, routesOf, holderOf}
 use Rattle.route.specs.declared.Chosen.{Chosen}
 use Rattle.route.specs.Choice.{whichRoute}
-use Rattle.route.specs.LastHop.{properLastHop}
+use Rattle.last_hop.specs.LastHop.{properLastHop}
 use Rattle.header.specs.declared.Header.{Header}
 use Rattle.message.specs.declared.Blocks.{Blocks}
 use Rattle.message.specs.declared.Checked.{Checked}

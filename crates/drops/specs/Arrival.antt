@@ -6,7 +6,7 @@ use lib.Dec.{eqb}
 use Rattle.sheet.specs.Sheet.{layoutOf}
 use Rattle.tables.specs.Tables.{interfaceOf, routesOf}
 use Rattle.route.specs.Choice.{whichRoute}
-use Rattle.route.specs.LastHop.{properLastHop}
+use Rattle.last_hop.specs.LastHop.{properLastHop}
 use Rattle.route.specs.declared.Chosen.{Chosen}
 use Rattle.header.specs.declared.Header.{Header}
 use Rattle.header.specs.Format.{query, request}

@@ -12,7 +12,7 @@ ghost use Rattle.recent.specs.Inside.{Formed};
 ghost use Rattle.recent.specs.Entries.{seenIn};
 ghost use Rattle.sheet.specs.Sheet.{layoutOf};
 ghost use Rattle.tables.specs.Tables.{interfaceOf, holderOf};
-ghost use Rattle.route.specs.LastHop.{properLastHop};
+ghost use Rattle.last_hop.specs.LastHop.{properLastHop};
 ghost use Rattle.drops.specs.Arrival.{arrival, isQuery};
 ghost use Rattle.rows.specs.Rows.{firstOf};
 ghost use Rattle.drops.specs.Drop.{isHeld, deliveryRows, routeRows};
@@ -115,7 +115,7 @@ fn is_proper(f: Format, sheet: &[u8], layout: Layout, chosen: Chosen, h: Header)
     ensures { λ r. ⌜ r ≡ (isQuery h && properLastHop (interfaceOf f (now (sheet .entry))) (layoutOf f (now (sheet .entry)) .interfaces) chosen (h .client)) ⌝ }
 {
     if h.kind == header::QUERY {
-        return route::last_hop(f, sheet, layout, chosen, h.client);
+        return last_hop::last_hop(f, sheet, layout, chosen, h.client);
     }
     false
 }

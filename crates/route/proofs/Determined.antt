@@ -2,10 +2,6 @@
 use mathlib.Core.Path.{_≡_}
 use Rattle.rows.proofs.Laws.{both-are}
 use Rattle.route.proofs.choose.Reads as choose
-use Rattle.route.proofs.last_hop.Reads as last-hop
 
 pub choose-determined : (κs : _) (a : _) (x y : _) (e f : _) → choose.Post κs a x e → choose.Post κs a y f → x ≡ y
 choose-determined κs a x y e f p q = both-are p q
-
-pub last-hop-determined : (κs : _) (a : _) (x y : _) (e f : _) → last-hop.Post κs a x e → last-hop.Post κs a y f → x ≡ y
-last-hop-determined κs a x y e f p q = both-are p q

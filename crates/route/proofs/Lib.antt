@@ -2,6 +2,5 @@
 mod Ranks
 mod ByKind
 mod Turns
-mod Reached
 pub mod Laws
 pub mod Determined

@@ -1,16 +1,14 @@
 -- Inside: what only the contracts of this crate's own functions cite. No entry's promise rests on it, and a reader of the definitions may pass it over.
 -- Here: how one pass finds the route. Every route has a rank for a source and a group, and the first of the highest rank is
--- the one; 0 serves not at all. And how one pass over a map finds an interface.
-use Prim.Native.Nat.{ℕ, zero, suc, _+_, _%_}
+-- the one; 0 serves not at all.
+use Prim.Native.Nat.{ℕ, zero, suc, _+_}
 use mathlib.Core.Bool.{Bool, true, false, not, _&&_, _||_, cond}
 use mathlib.Core.List.{List}
 use lib.Dec.{ltb, eqb}
 use Rattle.address.specs.Addresses.{allOnes}
 use Rattle.format.specs.declared.Format.{Format}
 use Rattle.prefix.specs.Prefix.{addressBits, samePrefix}
-use Rattle.interface.specs.Interface.{isMulticast}
 use Rattle.route_entry.specs.Route.{groupOnly, sourceOnly, routeAt}
-use Rattle.interface.specs.declared.Interface.{Interface}
 use Rattle.route_entry.specs.declared.Route.{Route}
 use Rattle.tables.specs.Tables.{routePlace}
 use Rattle.route.specs.declared.Best.{Best}
@@ -83,7 +81,3 @@ bestWith rank place b (suc n) = better (bestWith rank place b n) (rank (place n)
 -- the best of the first n routes of a sheet
 abbrev pub bestOf : Format → List ℕ → ℕ → ℕ → ℕ → Best
 bestOf F sheet source group n = bestWith (rankAt sheet source group) (routePlace F sheet) (best 0 0) n
-
--- what is left of a map has its lowest bit set, and the interface of that bit is multicast and has the client in its subnet
-unfoldable pub reachesBy : ℕ → ℕ → Interface → Bool
-reachesBy map client i = cond (eqb (map % 2) 0) false (isMulticast i && samePrefix (i .length) (i .address) client)

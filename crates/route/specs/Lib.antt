@@ -1,4 +1,3 @@
--- Which route, and the proper last hop (document 01, "Which route" and "One router's step").
+-- Which route (document 01, "Which route").
 pub mod Choice
-pub mod LastHop
 pub mod Inside

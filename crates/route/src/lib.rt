@@ -1,4 +1,4 @@
-// Which route serves a source and a group, and whether a router is the proper last hop for a client.
+// Which route serves a source and a group.
 use format::Format;
 use route_entry::Route;
 use sheet::Layout;
@@ -11,11 +11,10 @@ ghost use Rattle.format.specs.Sizes.{Sound, routeFields};
 ghost use Rattle.route_entry.specs.Route.{routeAt};
 ghost use Rattle.route_rules.specs.Rules.{routeOk};
 ghost use Rattle.sheet.specs.Sheet.{layoutOf};
-ghost use Rattle.tables.specs.Tables.{interfaceOf, routesOf};
+ghost use Rattle.tables.specs.Tables.{routesOf};
 ghost use Rattle.tables.specs.Inside.{Beside};
 ghost use Rattle.route.specs.Choice.{whichRoute};
-ghost use Rattle.route.specs.LastHop.{someReaches, properLastHop};
-ghost use Rattle.route.specs.Inside.{ofSource, serves, rankAs, rankAt, better, bestWith, bestOf, reachesBy};
+ghost use Rattle.route.specs.Inside.{ofSource, serves, rankAs, rankAt, better, bestWith, bestOf};
 
 // The lowest rank of kind 3.
 const SOURCE_RANK: usize = 1;
@@ -162,54 +161,4 @@ pub fn choose(f: Format, s: &[u8], l: Layout, source: u32, group: u32) -> Chosen
         return Chosen::Nothing;
     }
     Chosen::Found(route_entry::route_at(s, b.at))
-}
-
-// Whether interface `k` has the lowest bit of what is left of a map, is multicast, and has the client in its subnet.
-fn reaches(f: Format, s: &[u8], map: u64, k: usize, client: u32) -> bool
-    requires { ⌜ Sound f ⌝ }
-    requires { ⌜ k < layoutOf f (now s) .interfaces ⌝ }
-    ensures { λ b. ⌜ b ≡ reachesBy map client (interfaceOf f (now (s .entry)) k) ⌝ }
-{
-    if map % 2 == 0 {
-        return false;
-    }
-    let i = interface::interface_at(s, tables::interface_place(f, k));
-    interface::is_multicast(i) & prefix::same_prefix(i.length, i.address, client)
-}
-
-// Whether some interface of a valid sheet in the would-forward map does so. None behind the last bit of the map is looked at.
-fn some_reaches(f: Format, s: &[u8], l: Layout, r: Route, client: u32) -> bool
-    requires { ⌜ Sound f ⌝ }
-    requires { ⌜ l ≡ layoutOf f (now s) ⌝ }
-    ensures { λ b. ⌜ b ≡ someReaches (interfaceOf f (now (s .entry))) r client (layoutOf f (now (s .entry)) .interfaces) ⌝ }
-{
-    let mut k: usize = 0;
-    while k < l.interfaces {
-        let map = r.forward >> k;
-        if map == 0 {
-            return false;
-        }
-        if reaches(f, s, map, k, client) {
-            return true;
-        }
-        k += 1;
-    }
-    false
-}
-
-// Whether a router with a valid sheet is the proper last hop for a client, by the route chosen.
-pub fn last_hop(f: Format, s: &[u8], l: Layout, c: Chosen, client: u32) -> bool
-    requires { ⌜ Sound f ⌝ }
-    requires { ⌜ l ≡ layoutOf f (now s) ⌝ }
-    ensures { λ b. ⌜ b ≡ properLastHop (interfaceOf f (now (s .entry))) (layoutOf f (now (s .entry)) .interfaces) c client ⌝ }
-{
-    match c {
-        Chosen::Found(r) => {
-            if route_entry::is_rp(r) {
-                return true;
-            }
-            some_reaches(f, s, l, r, client)
-        }
-        Chosen::Nothing => false,
-    }
 }

@@ -22,7 +22,7 @@ fn ask(s: &[u8], source: u32, group: u32, client: u32) {
         Chosen::Found(r) => print(r),
         Chosen::Nothing => tape::then(0),
     }
-    tape::whether(route::last_hop(format::IPV4, s, l, chosen, client));
+    tape::whether(last_hop::last_hop(format::IPV4, s, l, chosen, client));
     tape::end();
 }
 

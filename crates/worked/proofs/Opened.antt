@@ -17,7 +17,7 @@ use Rattle.sheet_block.specs.Rules.{blockOk}
 use Rattle.sheet.specs.Sheet.{interfaceBlocksIn, interfaceBlocks, entriesIn, interfacesIn, routesIn, interfaceBlockOk, routeBlockOk, blockOkWith, validSheet, counted, layoutOf}
 use Rattle.tables.specs.Tables.{interfaceOf, routeOf, interfacesOf, routesOf, prohibitedOf, holderFrom, holderOf}
 use Rattle.route.specs.Choice.{servesBoth, servesGroup, servesSource, longer, longestBy, orElse, whichRoute}
-use Rattle.route.specs.LastHop.{reaches, someReaches, properLastHop}
+use Rattle.last_hop.specs.LastHop.{reaches, someReaches, properLastHop}
 use Rattle.forwarding.specs.Code.{codes}
 use Rattle.response.specs.Fill.{filledOf, blockOf, endsTrace}
 use Rattle.written.specs.Bytes.{blockBytes, noteBytes}

@@ -4,10 +4,10 @@ use mathlib.Core.Bool.{false}
 use mathlib.Core.Path.{_≡_, refl}
 use native.Mathlib.Omega.{arith}
 use Rattle.tables.specs.Tables.{interfaceOf}
-use Rattle.route.specs.LastHop.{someReaches}
-use Rattle.route.proofs.Reached.{bit-there, interface-counted, map-over, reached, not-reached, none-reached}
-use Rattle.route.proofs.some_reaches.Statement.{statement}
-use Rattle.route.proofs.some_reaches.Tie as tie
+use Rattle.last_hop.specs.LastHop.{someReaches}
+use Rattle.last_hop.proofs.Reached.{bit-there, interface-counted, map-over, reached, not-reached, none-reached}
+use Rattle.last_hop.proofs.some_reaches.Statement.{statement}
+use Rattle.last_hop.proofs.some_reaches.Tie as tie
 
 abbrev Inv-loop : tie.InvT-loop
 Inv-loop f s l r client k₀ k = (k ≤ l .interfaces) × (someReaches (interfaceOf f s) r client k ≡ false)

@@ -1,10 +1,10 @@
 -- `reaches`: each way out is the first test that holds.
 use Rattle.sheet.proofs.Laws.{interface-few}
 use Rattle.tables.proofs.Laws.{place-within, interface-told}
-use Rattle.route.proofs.Reached.{bit-clear, bit-set, interface-short-enough}
+use Rattle.last_hop.proofs.Reached.{bit-clear, bit-set, interface-short-enough}
 use borrow.Author.Needs.{needs}
-use Rattle.route.proofs.reaches.Statement.{statement}
-use Rattle.route.proofs.reaches.Tie as tie
+use Rattle.last_hop.proofs.reaches.Statement.{statement}
+use Rattle.last_hop.proofs.reaches.Tie as tie
 
 returns : tie.Need-returns
 returns c = search bit-clear

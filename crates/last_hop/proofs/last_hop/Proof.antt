@@ -1,8 +1,8 @@
 -- `last_hop`: by the route chosen, as the definition goes.
-use Rattle.route.proofs.Reached.{hop-rp, hop-reached, hop-none}
+use Rattle.last_hop.proofs.Reached.{hop-rp, hop-reached, hop-none}
 use borrow.Author.Needs.{needs}
-use Rattle.route.proofs.last_hop.Statement.{statement}
-use Rattle.route.proofs.last_hop.Tie as tie
+use Rattle.last_hop.proofs.last_hop.Statement.{statement}
+use Rattle.last_hop.proofs.last_hop.Tie as tie
 
 returns : tie.Need-returns
 returns c = search hop-rp

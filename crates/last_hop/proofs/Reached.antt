@@ -23,10 +23,10 @@ use Rattle.sheet.specs.Sheet.{layoutOf}
 use Rattle.tables.specs.Tables.{interfaceOf}
 use Rattle.sheet.proofs.Laws.{interface-few}
 use Rattle.tables.proofs.Laws.{interface-keeps}
 use Rattle.route.specs.declared.Chosen.{Chosen}
 use Rattle.route.specs.declared.Chosen.the-variants.{Found, Nothing}
-use Rattle.route.specs.Inside.{reachesBy}
-use Rattle.route.specs.LastHop.{reaches, someReaches, properLastHop}
+use Rattle.last_hop.specs.Inside.{reachesBy}
+use Rattle.last_hop.specs.LastHop.{reaches, someReaches, properLastHop}
 
 -- the proper last hop, by the route chosen
 module _ (interface : ℕ → Interface) (n : ℕ) (chosen : Chosen) (client : ℕ) where
