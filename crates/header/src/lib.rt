@@ -9,12 +9,14 @@ ghost use Rattle.header.specs.Header.{headerOf};
 ghost use Rattle.rows.specs.Rows.{firstOf};
 ghost use Rattle.header.specs.Rows.{headerRows};
 
+// The types of messages.
 pub const QUERY: u8 = 1;
 
 pub const REQUEST: u8 = 2;
 
 pub const REPLY: u8 = 3;
 
+// The types of the blocks behind a header.
 pub const STANDARD: u8 = 4;
 
 pub const AUGMENTED: u8 = 5;
@@ -29,6 +31,7 @@ pub const UPSTREAM_OFFSET: usize = 16;
 // Bytes of the answer record that goes with a message sent.
 pub const NOTE_SIZE: usize = 16;
 
+// The drop numbers of a header.
 const DROP_TYPE: u32 = 6;
 
 pub const DROP_HEADER: u32 = 7;

@@ -9,6 +9,7 @@ ghost use Rattle.format.specs.Sizes.{Sound, outputSize, roomOf};
 ghost use Rattle.message.specs.Blocks.{rightForm, blocksEnd};
 ghost use Rattle.message.specs.Inside.{isStandard, augmentedSize, blockAt, blocksSeen, refusedMessage, checkOf};
 
+// The least length of an Augmented Response Block, and what every length of one is a multiple of.
 const AUGMENTED_LEAST: usize = 8;
 
 const AUGMENTED_UNIT: usize = 4;
@@ -16,7 +17,7 @@ const AUGMENTED_UNIT: usize = 4;
 // Bytes of the IP and UDP headers.
 const IP_AND_UDP: usize = 28;
 
-// The drop numbers of a message by itself.
+// The drop numbers of a message by itself, besides those of its header.
 pub const DROP_SIZE: u32 = 5;
 
 pub const DROP_BLOCKS: u32 = 13;
