@@ -9,6 +9,7 @@ use Rattle.forwarding.specs.declared.View.{View}
 use Rattle.rows.specs.Rows.{byFirst, firstOf}
 use Rattle.forwarding.specs.Code.{codeWrongLastHop, codeNoRoute, wrongLastHop, scoped, codesFor, codes, codeOf}
 use Rattle.forwarding.specs.Inside.{lateCodes}
+use Rattle.forwarding.proofs.Laws.{hidden-no-route}
 
 -- the codes from SCOPED on, by what `in_scope` answered
 pub late-told : (v : View) (r : Route) (inScope : Bool) (code : ℕ) → inScope ≡ scoped v → code ≡ firstOf (lateCodes inScope r (v .number))
@@ -22,8 +23,7 @@ code-found v r found code e = e ∙ ap (λ (w : Chosen). firstOf (codesFor v w))
 -- no route: WRONG_LAST_HOP, or else NO_ROUTE
 module _ (v : View) (none : v .chosen ≡ Nothing) where
   pub code-none-wrong : wrongLastHop v ≡ true → codeWrongLastHop ≡ codeOf v
-  unfolding codes byFirst
-  code-none-wrong e = rw (none, e)
+  code-none-wrong e = sym (hidden-no-route v none e)
 
   pub code-none : wrongLastHop v ≡ false → codeNoRoute ≡ codeOf v
   unfolding codes byFirst

@@ -14,6 +14,7 @@ use Rattle.forwarding.specs.declared.View.{View}
 use Rattle.written.specs.declared.Filled.{Filled}
 use Rattle.response.specs.Inside.{RouteFits}
 use Rattle.response.specs.Fill.{noSourceMask, maskOf, sOf, sBit, sAndMask, filledOf, unfilled, fillFor, endsTrace}
+use Rattle.response.proofs.Laws.{no-route-ends}
 
 module _ (v : View) (r : Route) (found : v .chosen ≡ Found r) where
   pub ends-found : (rp : Bool) (blocks hops : ℕ) → rp ≡ isRp r → (v .prohibited || rp || eqb (r .upstream) 0 || eqb blocks hops) ≡ endsTrace v blocks hops
@@ -28,8 +29,7 @@ module _ (v : View) (r : Route) (found : v .chosen ≡ Found r) where
 
 module _ (v : View) (none : v .chosen ≡ Nothing) where
   pub ends-none : (blocks hops : ℕ) → true ≡ endsTrace v blocks hops
-  unfolding endsTrace
-  ends-none blocks hops = rw none
+  ends-none blocks hops = sym (no-route-ends v blocks hops none)
 
   pub fill-none : (f : Filled) → f ≡ unfilled → f ≡ fillFor v (v .chosen)
   fill-none f e = rw none e

@@ -1,3 +1,3 @@
--- A router's Standard Response Block (document 01, "One router's step", 3 to 5): what it is filled with, and what ends a trace.
+-- A router's Standard Response Block (document 01, "One router's step", 2, 4 and 5): what it is filled with, and what ends a trace.
 pub mod Fill
 pub mod Inside

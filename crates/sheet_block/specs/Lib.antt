@@ -1,3 +1,3 @@
--- One block of a sheet (document 01, "Sheet"): the rules on it.
+-- One block of a sheet (document 01, "Sheet"): the rules on it; and tests of things numbered from 0.
 pub mod Every
 pub mod Rules
