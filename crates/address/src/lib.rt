@@ -1,4 +1,6 @@
 // Classes of IPv4 addresses.
+#![tactic(auto)]
+
 ghost use Rattle.std.specs.Prelude.{◌≡◌, ◌<◌};
 ghost use Rattle.address.specs.Addresses.{unicast, multicast, link_scoped, all_ones};
 

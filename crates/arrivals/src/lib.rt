@@ -1,4 +1,6 @@
 // The time between two arrivals.
+#![tactic(auto)]
+
 ghost use Rattle.std.specs.Prelude.{◌≡◌};
 ghost use Rattle.arrivals.specs.Difference.{difference_of};
 

@@ -1,4 +1,6 @@
 // The frame of a block of 512 bytes: kind, entries in use, number, unused bytes, sum.
+#![tactic(auto)]
+
 ghost use Rattle.std.specs.Prelude.{◌≡◌, ◌+◌, ◌*◌, ◌/◌, ◌%◌, ◌<◌, ◌≤◌, ◌&&◌, length, if◌then◌else◌, ◌==◌, nat_lt};
 ghost use Rattle.block.specs.Sum.{right_sum};
 ghost use Rattle.block.specs.Block.{block_size, entries_room, place_in_block, filled_ok, frame_ok};

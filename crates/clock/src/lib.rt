@@ -1,4 +1,6 @@
 // A clock that follows its host forwards, never issues a time twice or goes back, and works off a lead at half rate.
+#![tactic(auto)]
+
 ghost use Rattle.std.specs.Prelude.{◌≡◌, ◌≤◌, ◌<◌, min};
 ghost use Rattle.clock.specs.Clock.{last_time, time_for, start_of, advance_of, arrival_of};
 

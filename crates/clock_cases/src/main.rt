@@ -1,6 +1,8 @@
 // Runs the clock on the cases of standard input, and writes a line for each. Command 1 starts a
 // clock, 2 advances the clock given, 3 the clock handed back last, 4 turns UNIX time into units, and
 // 5 gives an arrival time.
+#![tactic(auto)]
+
 use clock::{Clock, Tick};
 
 // Whether there may be more commands, and the clock handed back last.

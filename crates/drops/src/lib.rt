@@ -1,4 +1,6 @@
 // Whether a router drops what arrives: the drop table, and what is found out while it is tried.
+#![tactic(auto)]
+
 ghost use Rattle.std.specs.Prelude.{◌≡◌, true, ◌&&◌, ◌||◌};
 ghost use Rattle.address.specs.Addresses.{link_scoped};
 ghost use Rattle.format.specs.Sizes.{Sound};

@@ -1,4 +1,6 @@
 // One router's step: what arrives is dropped by its number, or answered by the Request sent on or the Reply sent home.
+#![tactic(auto)]
+
 ghost use Rattle.std.specs.Prelude.{◌≡◌, length};
 ghost use Rattle.format.specs.Sizes.{Sound, ipv4};
 ghost use Rattle.recent.specs.Inside.{Formed};

@@ -1,6 +1,8 @@
 // Runs the engine's step on the cases of standard input, and writes a line for each; then how often
 // each answer and each code was met. Command 0 writes a label, 1 to 5 change the message, the sheet,
 // the recent list, the output and the record, and 6 runs a step.
+#![tactic(auto)]
+
 
 // Areas longer than what is lent from them, so that their tails are seen to stay. The message's
 // has room for a length that would pass if it were cut to 16 bits.

@@ -1,4 +1,6 @@
 // The forwarding code: the first that applies, in what a router looks at when it answers.
+#![tactic(auto)]
+
 ghost use Rattle.std.specs.Prelude.{◌≡◌, ◌<◌};
 ghost use Rattle.interface.specs.Interface.{most_interfaces};
 ghost use Rattle.route.specs.declared.Chosen.TheVariants.{Found};

@@ -1,4 +1,6 @@
 // The numbers of the message format; the header of a message, read once into a struct by value; and the rows on it.
+#![tactic(auto)]
+
 ghost use Rattle.std.specs.Prelude.{◌≡◌, cond, ◌≤◌, length};
 ghost use Rattle.format.specs.Sizes.{Sound, header_fields};
 ghost use Rattle.header.specs.Header.{header_of};

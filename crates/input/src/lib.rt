@@ -1,4 +1,6 @@
 // What the program `walk` reads, and the walk that it asks for.
+#![tactic(auto)]
+
 ghost use Rattle.std.specs.Prelude.{◌≡◌, ◌+◌, ◌≤◌, ◌<◌, min, length, replicate};
 ghost use Rattle.yard.specs.Yard.{most_routers};
 ghost use Rattle.yard.specs.Walk.{Tells};

@@ -1,4 +1,6 @@
 // An interface entry of a sheet, read once into a struct by value, and the rules on it by itself.
+#![tactic(auto)]
+
 ghost use Rattle.std.specs.Prelude.{◌≡◌, ◌+◌, ◌≤◌, length};
 ghost use Rattle.format.specs.Sizes.{interface_fields};
 ghost use Rattle.interface.specs.Interface.{interface_at, is_multicast, is_boundary, interface_ok};

@@ -1,4 +1,6 @@
 // Whether a router is the proper last hop for a client, by the route chosen.
+#![tactic(auto)]
+
 ghost use Rattle.std.specs.Prelude.{true, ◌≡◌, ◌+◌, ◌<◌, length};
 ghost use Rattle.format.specs.Sizes.{Sound};
 ghost use Rattle.sheet.specs.Sheet.{layout_of};

@@ -1,4 +1,6 @@
 // One link between two Replies: the first name that applies to its counts, or what was lost on it.
+#![tactic(auto)]
+
 ghost use Rattle.std.specs.Prelude.{◌≡◌};
 ghost use Rattle.link.specs.Link.{count_of, not_counted, link_of, no_tally, verdict_of, tally_of};
 

@@ -1,4 +1,6 @@
 // Two Replies over one path: what each link sent, received and lost between them.
+#![tactic(auto)]
+
 ghost use Rattle.std.specs.Prelude.{◌≡◌, ◌+◌, ◌≤◌, length};
 ghost use Rattle.rows.specs.Rows.{first_of};
 ghost use Rattle.wire.specs.Parts.{splice};

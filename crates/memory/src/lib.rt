@@ -1,4 +1,6 @@
 // Numbers in memory's order, where the first byte counts least: for tests that do not mind the order of bytes.
+#![tactic(auto)]
+
 ghost use Rattle.std.specs.Prelude.{◌≡◌, ◌+◌, ◌≤◌, ◌<◌, length};
 ghost use Rattle.wire.specs.Numbers.{bytes32, bytes64};
 ghost use Rattle.memory.specs.Inside.{le32, le64, octets};

@@ -1,4 +1,6 @@
 // Messages as they arrive: the blocks walked once, and every rule checked; all by the sizes of a format.
+#![tactic(auto)]
+
 ghost use Rattle.std.specs.Prelude.{◌≡◌, ◌+◌, ◌≤◌, ltb, length};
 ghost use Rattle.format.specs.Sizes.{Sound, output_size, room_of};
 ghost use Rattle.message.specs.Blocks.{right_form, blocks_end};

@@ -1,5 +1,7 @@
 // Runs the check of messages on the cases of standard input, and writes a line for each. Command 0
 // writes a label, 1 changes the message, and 2 checks its first bytes.
+#![tactic(auto)]
+
 use header::Header;
 use message::Blocks;
 

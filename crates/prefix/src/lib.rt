@@ -1,4 +1,6 @@
 // Prefixes of IPv4 addresses.
+#![tactic(auto)]
+
 ghost use Rattle.std.specs.Prelude.{◌≡◌, ◌≤◌};
 ghost use Rattle.prefix.specs.Prefix.{address_bits, same_prefix, zero_past};
 

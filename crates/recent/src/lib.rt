@@ -1,4 +1,6 @@
 // The recent list: which Queries were accepted, by client and id, in 196 lent bytes.
+#![tactic(auto)]
+
 ghost use Rattle.std.specs.Prelude.{◌≡◌, ◌+◌, ◌<◌, ◌≤◌, length, drop};
 ghost use Rattle.wire.specs.Parts.{all_zero};
 ghost use Rattle.recent.specs.Layout.{recent_place, entry_size, entry_count, well_formed};

@@ -1,5 +1,7 @@
 // Runs the recent list on the cases of standard input, and writes a line for each. Command 0 writes a
 // label, 1 changes the list, 2 checks its first bytes, 3 looks for a client and an id, and 4 enters them.
+#![tactic(auto)]
+
 
 // Room for more than a list, so that its tail is seen to stay.
 const AREA: usize = 512;

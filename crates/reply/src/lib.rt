@@ -1,4 +1,6 @@
 // Replies as a client reads them: the check, the type 4 blocks one after the other, and a reader that holds the message.
+#![tactic(auto)]
+
 ghost use Rattle.std.specs.Prelude.{◌≡◌, ◌+◌, ◌≤◌, length};
 ghost use Rattle.format.specs.Sizes.{ipv4};
 ghost use Rattle.header.specs.Format.{header_size};

@@ -1,5 +1,7 @@
 // Reads Replies and asks for the loss between two, on the cases of standard input, and writes lines for each. Command 0 writes a
 // label, 1 to 3 change the two Replies and what is written, 4 to 7 call an entry for C, 8 reads a Reply, and 9 asks for the links.
+#![tactic(auto)]
+
 ghost use Rattle.std.specs.Prelude.{◌≡◌, ◌+◌, ◌≤◌};
 ghost use Rattle.io.specs.Counts.{IsPrefixLen};
 ghost use Rattle.reply.specs.Reader.{start_of, next_from};

@@ -1,5 +1,7 @@
 // A router's Standard Response Block: what it is filled with; and what ends a trace. All over records: no byte of a message or a sheet
 // is looked at here.
+#![tactic(auto)]
+
 ghost use Rattle.std.specs.Prelude.{◌≡◌, ◌+◌, ◌≤◌, ◌<◌};
 ghost use Rattle.prefix.specs.Prefix.{address_bits};
 ghost use Rattle.interface.specs.Interface.{most_interfaces};

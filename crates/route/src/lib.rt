@@ -1,4 +1,6 @@
 // Which route serves a source and a group.
+#![tactic(auto)]
+
 ghost use Rattle.std.specs.Prelude.{true, ◌≡◌, ◌+◌, ◌*◌, ◌≤◌, ◌<◌, length};
 ghost use Rattle.prefix.specs.Prefix.{address_bits};
 ghost use Rattle.format.specs.Sizes.{Sound, route_fields};

@@ -1,5 +1,7 @@
 // Runs which route and the proper last hop on the cases of standard input, and writes a line for each.
 // Command 0 writes a label, 1 changes the sheet, and 2 asks for a source, a group and a client.
+#![tactic(auto)]
+
 use route::Chosen;
 
 // Room for the longest sheet.

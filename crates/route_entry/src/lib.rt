@@ -1,4 +1,6 @@
 // A route entry of a sheet, read once into a struct by value.
+#![tactic(auto)]
+
 ghost use Rattle.std.specs.Prelude.{◌≡◌, ◌+◌, ◌≤◌, ◌<◌, length};
 ghost use Rattle.format.specs.Sizes.{route_fields};
 ghost use Rattle.interface.specs.Interface.{most_interfaces};

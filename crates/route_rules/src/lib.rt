@@ -1,4 +1,6 @@
 // The rules on a route entry by itself.
+#![tactic(auto)]
+
 ghost use Rattle.std.specs.Prelude.{◌≡◌, ◌&&◌, ◌+◌, ◌≤◌, ◌<◌, length};
 ghost use Rattle.format.specs.Sizes.{route_fields};
 ghost use Rattle.interface.specs.Interface.{most_interfaces};

@@ -1,1 +1,3 @@
 // Tables as lists of rows: definitions and laws, no code.
+#![tactic(auto)]
+

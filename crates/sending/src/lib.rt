@@ -1,4 +1,6 @@
 // What a router sends when it has accepted a message: the Request on or the Reply home, with its record.
+#![tactic(auto)]
+
 ghost use Rattle.std.specs.Prelude.{◌≡◌, ◌+◌, ◌≤◌, ◌<◌, length, set};
 ghost use Rattle.wire.specs.Parts.{splice};
 ghost use Rattle.format.specs.Sizes.{Sound, output_size};

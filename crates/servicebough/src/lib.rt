@@ -1,5 +1,7 @@
 // What a host written in C or Rust calls. Numbers pass as themselves, a slice as a pointer and a length; no entry asks anything of
 // its caller but that what is written overlaps nothing else.
+#![tactic(auto)]
+
 ghost use Rattle.std.specs.Prelude.{◌≡◌, ◌≤◌, length};
 ghost use Rattle.clock.specs.Clock.{clock_of, start_of, advance_of, arrival_of};
 ghost use Rattle.unix.specs.Unix.{unix_of};

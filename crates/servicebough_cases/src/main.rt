@@ -1,6 +1,8 @@
 // Calls the entries for C by the places of their arguments, on the cases of standard input, and writes a line for each. Command 0
 // writes a label, 1 to 5 change the message, the tables, the recent list, the output and what is handed over, 6 sets a router's
 // time, and 7 to 12 call an entry.
+#![tactic(auto)]
+
 
 ghost use Rattle.std.specs.Prelude.{◌+◌, ◌≤◌};
 ghost use Rattle.io.specs.Counts.{IsPrefixLen};

@@ -1,4 +1,6 @@
 // The check of a whole sheet.
+#![tactic(auto)]
+
 ghost use Rattle.std.specs.Prelude.{◌≡◌, true, ◌+◌, ◌*◌, ◌/◌, ◌≤◌, ◌<◌, length};
 ghost use Rattle.wire.specs.Numbers.{byte_at};
 ghost use Rattle.block.specs.Block.{block_size, entries_room};

@@ -1,4 +1,6 @@
 // The rules on one block of a sheet.
+#![tactic(auto)]
+
 ghost use Rattle.std.specs.Prelude.{◌≡◌, ◌≤◌, ◌<◌, length};
 ghost use Rattle.block.specs.Block.{block_size, entries_each};
 ghost use Rattle.format.specs.Sizes.{Sound};

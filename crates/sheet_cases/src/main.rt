@@ -1,6 +1,8 @@
 // Runs the sheet's check and its readers on the cases of standard input, and writes a line for each.
 // Command 0 writes a label, 1 changes the sheet, 2 checks its first bytes, 3 and 4 read an interface
 // and a route, and 5 looks for an address.
+#![tactic(auto)]
+
 use tables::Holding;
 
 // Room for one block more than a sheet may have.

@@ -1,4 +1,6 @@
 // A Standard Response Block as it is handed out: its fields, beside its bytes.
+#![tactic(auto)]
+
 ghost use Rattle.std.specs.Prelude.{◌≡◌, ◌+◌, ◌≤◌, length};
 ghost use Rattle.header.specs.Format.{standard_size};
 ghost use Rattle.standard.specs.Standard.{standard_of, standard_in};

@@ -1,4 +1,6 @@
 // The tables of a valid sheet, read.
+#![tactic(auto)]
+
 ghost use Rattle.std.specs.Prelude.{◌≡◌, ◌+◌, ◌*◌, ◌≤◌, ◌<◌, length};
 ghost use Rattle.block.specs.Block.{block_size};
 ghost use Rattle.format.specs.Sizes.{Sound};

@@ -1,5 +1,7 @@
 // What the case programs share. They read commands of 32 bytes from standard input, keep bytes in
 // areas, and write lines of words and decimal numbers to standard output.
+#![tactic(auto)]
+
 ghost use Rattle.std.specs.Prelude.{◌+◌, ◌<◌, ◌≤◌};
 
 // Reads the next command, and answers whether there was a whole one.

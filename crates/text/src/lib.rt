@@ -1,4 +1,6 @@
 // What the program `walk` prints: the text of the walk that an input asks for.
+#![tactic(auto)]
+
 ghost use Rattle.std.specs.Prelude.{◌≡◌, ◌+◌, ◌≤◌, ◌<◌, true, cond, [], ◌∷◌, ◌++◌, length};
 ghost use Rattle.wire.specs.Parts.{splice};
 ghost use Rattle.header.specs.Format.{most, standard_size};

@@ -1,5 +1,7 @@
 // Prints what the program `walk` prints for the inputs that standard input tells, each below its label. Command 0 writes a label,
 // 1 changes the input, and 2 prints.
+#![tactic(auto)]
+
 
 // Longer than what is ever lent, so that yards of more than 32 sheets are tried too.
 const INPUT: usize = 34304;

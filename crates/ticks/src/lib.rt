@@ -1,4 +1,6 @@
 // What a reading gave, as C is handed it: a number, and 24 bytes.
+#![tactic(auto)]
+
 ghost use Rattle.ticks.specs.Ticks.{TickMeets};
 
 use clock::Tick;

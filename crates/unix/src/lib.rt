@@ -1,4 +1,6 @@
 // UNIX time in the units of the clock.
+#![tactic(auto)]
+
 ghost use Rattle.std.specs.Prelude.{◌≡◌, ◌<◌};
 ghost use Rattle.unix.specs.Unix.{unix_of};
 

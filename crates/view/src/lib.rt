@@ -1,4 +1,6 @@
 // What a router looks at when it answers a message that it has accepted, and the link whose room counts.
+#![tactic(auto)]
+
 ghost use Rattle.std.specs.Prelude.{◌≡◌, ◌<◌};
 ghost use Rattle.format.specs.Sizes.{Sound};
 ghost use Rattle.sheet.specs.Sheet.{layout_of};

@@ -1,6 +1,8 @@
 // Runs the walk on the cases of standard input, and writes a line for each; then how often each end
 // was met. Command 0 writes a label, 1 to 3 change the yard, the message and the output, 4 sets a
 // router's time, and 5 walks.
+#![tactic(auto)]
+
 use yard::Walked;
 
 // Areas longer than what is lent from them, so that their tails are seen to stay. The yard's has

@@ -1,4 +1,6 @@
 // Numbers in bytes, big-endian; copying.
+#![tactic(auto)]
+
 ghost use Rattle.std.specs.Prelude.{◌≡◌, ◌+◌, ◌≤◌, ◌<◌, length};
 ghost use Rattle.wire.specs.Numbers.{be16, be32, be64, bytes16, bytes32, bytes64};
 ghost use Rattle.wire.specs.Parts.{splice};

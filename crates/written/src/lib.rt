@@ -1,4 +1,6 @@
 // What is written field by field: a Standard Response Block and an answer record, and their bytes.
+#![tactic(auto)]
+
 ghost use Rattle.std.specs.Prelude.{◌≡◌};
 ghost use Rattle.written.specs.Bytes.{block_bytes, note_bytes};
 

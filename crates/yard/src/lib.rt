@@ -1,4 +1,6 @@
 // A trace walked from router to router: each is a call of the engine, and the walk calls itself for the next.
+#![tactic(auto)]
+
 ghost use Rattle.std.specs.Prelude.{true, ◌≡◌, ◌+◌, ◌*◌, ◌/◌, ◌≤◌, ◌<◌, eqb, length};
 ghost use Rattle.wire.specs.Numbers.{byte_at};
 ghost use Rattle.sheet_block.specs.Every.{every};

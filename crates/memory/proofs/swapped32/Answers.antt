@@ -7,8 +7,7 @@ use lib.Pow.{field, mod-mod-pow}
 use Rattle.wire.specs.Numbers.{bytes, bytes32}
 use Rattle.memory.specs.Inside.{le, le32}
 use borrow.Author.Rules.{rules}
-use Rattle.memory.proofs.swapped32.Statement.{statement}
-use Rattle.memory.proofs.swapped32.Tie as tie
+use Rattle.memory.proofs.swapped32.Goals as goal
 
 arranged : (a b c d e f g : ℕ) → e ≡ a → f ≡ b → g ≡ d → (a * 16777216 + b * 65536) + (c * 256 + d) ≡ (g + c * 256) + (f + e * 256) * 65536
 arranged a b c d e f g p q r = omega arith
@@ -21,17 +20,5 @@ swapped w =
     (field w 8 8)
     (div-div-eq-div-mul w 65536 256)
 
-returns : tie.Need-returns
+pub returns : goal.returns
 returns c = search swapped
-
-pub swapped32_spec : {M : Type 1} → statement M
-swapped32_spec =
-    tie.close
-    (tie.spec
-    (λ c. search rules)
-    (λ c. search rules)
-    (λ c. search rules)
-    (λ c. search rules)
-    (λ c. search rules)
-    (λ c. search rules)
-    returns)

@@ -4,15 +4,11 @@ use lib.Count.{leading_le}
 use Rattle.prefix.specs.Prefix.{address_bits, hosts, same_prefix}
 use Rattle.prefix.proofs.Prefixes.{leading_agree}
 use borrow.Author.Rules.{rules}
-use Rattle.prefix.proofs.same_prefix.Statement.{statement}
-use Rattle.prefix.proofs.same_prefix.Tie as tie
+use Rattle.prefix.proofs.same_prefix.Goals as goal
 
-cast-result : tie.Need-overflow-cast-result
-cast-result c = Fits-below tt (leading_le address_bits _)
+pub overflow_cast-result : goal.overflow_cast-result
+overflow_cast-result c = Fits-below tt (leading_le address_bits _)
 
-returns : tie.Need-returns
+pub returns : goal.returns
 unfolding same_prefix hosts
 returns c = search (leading_agree, rules)
-
-pub same_prefix_spec : {M : Type 1} → statement M
-same_prefix_spec = tie.close (tie.spec cast-result returns)

@@ -7,8 +7,7 @@ use Rattle.wire.specs.Numbers.{byte_at}
 use Rattle.memory.specs.Inside.{le32, octets}
 use Rattle.memory.proofs.Laws.{le32_is}
 use borrow.Author.Rules.{rules}
-use Rattle.memory.proofs.le32.Statement.{statement}
-use Rattle.memory.proofs.le32.Tie as tie
+use Rattle.memory.proofs.le32.Goals as goal
 
 weighed : (s : List ℕ) (at n : ℕ) → n ≡ (byte_at s at + byte_at s (at + 1) * 256) + (byte_at s (at + 2) * 65536 + byte_at s (at + 3) * 16777216) → n ≡ le32 s at
 weighed s at n e = e ∙ sym (le32_is s at)
@@ -17,28 +16,5 @@ four : (s : List ℕ) (at : ℕ) → byte_at s at < 256 → byte_at s (at + 1) <
 unfolding octets
 four s at a b c d = let last : at + 2 + 1 ≡ at + 3 = omega arith in let e : byte_at s (at + 2 + 1) < 256 = rw last d in ((a, b), (c, e))
 
-returns : tie.Need-returns
+pub returns : goal.returns
 returns c = (weighed _ _ _ (omega arith), four _ _ (omega arith) (omega arith) (omega arith) (omega arith))
-
-pub le32_spec : {M : Type 1} → statement M
-le32_spec =
-    tie.close
-    (tie.spec
-    (λ c. search rules)
-    (λ c κs. search rules)
-    (λ c. search rules)
-    (λ c. search rules)
-    (λ c κs. search rules)
-    (λ c. search rules)
-    (λ c. search rules)
-    (λ c. search rules)
-    (λ c. search rules)
-    (λ c κs. search rules)
-    (λ c. search rules)
-    (λ c. search rules)
-    (λ c. search rules)
-    (λ c κs. search rules)
-    (λ c. search rules)
-    (λ c. search rules)
-    (λ c. search rules)
-    returns)
