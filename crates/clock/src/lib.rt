@@ -5,7 +5,7 @@ ghost use Rattle.std.specs.Prelude.{◌≡◌, ◌≤◌, ◌<◌, min};
 ghost use Rattle.clock.specs.Clock.{last_time, time_for, start_of, advance_of, arrival_of};
 
 // The last reading r and the last issued time y, in units of 1/65536 s since NTP era 0.
-#[derive(Drop)]
+#[derive(Clone, Copy)]
 pub struct Clock {
     pub r: u64,
     pub y: u64,

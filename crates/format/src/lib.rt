@@ -3,7 +3,7 @@
 
 
 // What a message, its blocks and the entries of a sheet measure.
-#[derive(Drop)]
+#[derive(Clone, Copy)]
 pub struct Format {
     // A message: its header, a Standard Response Block, the place of the forwarding code in that, and the most that a message has.
     pub header: usize,

@@ -44,14 +44,14 @@ pub const CODE_NO_SPACE: u8 = 129;
 const SCOPED_OCTET: u32 = 239;
 
 // The incoming interface of the route chosen, where it is known.
-#[derive(Drop)]
+#[derive(Clone, Copy)]
 pub enum Incoming {
     Known(Interface),
     Unknown,
 }
 
 // What a router looks at when it answers a message that it has accepted.
-#[derive(Drop)]
+#[derive(Clone, Copy)]
 pub struct View {
     pub query: bool,
     pub proper: bool,

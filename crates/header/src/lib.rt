@@ -47,7 +47,7 @@ const DROP_PAIR: u32 = 11;
 const DROP_CLIENT: u32 = 12;
 
 // The header of a message. `kind` is its type, `group` the multicast address.
-#[derive(Drop)]
+#[derive(Clone, Copy)]
 pub struct Header {
     pub kind: u8,
     pub length: u16,

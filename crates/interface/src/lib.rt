@@ -11,7 +11,7 @@ use prefix::ADDRESS_BITS;
 // The most interfaces: a map has a bit for each.
 pub const MOST_INTERFACES: usize = 64;
 
-#[derive(Drop)]
+#[derive(Clone, Copy)]
 pub struct Interface {
     pub address: u32,
     pub length: u8,

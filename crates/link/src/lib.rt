@@ -9,14 +9,14 @@ use standard::Standard;
 const ALL_ONES: u64 = 18446744073709551615;
 
 // What was sent into a link and received from it, as one Reply counts it.
-#[derive(Drop)]
+#[derive(Clone, Copy)]
 pub struct Count {
     pub sent: u64,
     pub received: u64,
 }
 
 // What a link sent and received between two Replies, and what was lost of what was sent.
-#[derive(Drop)]
+#[derive(Clone, Copy)]
 pub struct Tally {
     pub sent: u64,
     pub received: u64,
@@ -24,7 +24,7 @@ pub struct Tally {
 }
 
 // A link's answer.
-#[derive(Drop)]
+#[derive(Clone, Copy)]
 pub enum Link {
     Counted(Tally),
     NotCounted,

@@ -21,7 +21,7 @@ pub const NOT_REPLY: u32 = 41;
 const HEADER_LENGTH: u16 = format::HEADER_SIZE as u16;
 
 // What a call of a reader hands out: the block, or zeros where none is left, and the place from which the next call goes on.
-#[derive(Drop)]
+#[derive(Clone, Copy)]
 pub struct Handed {
     pub found: bool,
     pub place: usize,

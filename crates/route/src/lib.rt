@@ -26,7 +26,7 @@ const GROUP_RANK: usize = 34;
 const BOTH_RANK: usize = 35;
 
 // The route chosen, if one serves.
-#[derive(Drop)]
+#[derive(Clone, Copy)]
 pub enum Chosen {
     Found(Route),
     Nothing,

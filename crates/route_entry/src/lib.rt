@@ -18,7 +18,7 @@ pub const SOURCE_ONLY: u8 = 3;
 // The number of an incoming interface that is not known.
 pub const UNKNOWN: u16 = 65535;
 
-#[derive(Drop)]
+#[derive(Clone, Copy)]
 pub struct Route {
     pub kind: u8,
     pub length: u8,

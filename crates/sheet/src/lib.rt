@@ -17,7 +17,7 @@ use sheet_block::{INTERFACE_KIND, interface_block_ok, route_block_ok, wide};
 const MOST_BLOCKS: usize = 16;
 
 // What the check tells of a sheet: whether it is valid, and how many interface blocks, interfaces and routes it has.
-#[derive(Drop)]
+#[derive(Clone, Copy)]
 pub struct Layout {
     pub valid: bool,
     pub blocks: usize,

@@ -16,7 +16,7 @@ const MASK_OFFSET: usize = 50;
 const S_BIT: u8 = 128;
 
 // A Standard Response Block: its 52 bytes as they came, and its fields. `routing` and `multicast` are the protocols' numbers.
-#[derive(Drop)]
+#[derive(Clone, Copy)]
 pub struct Standard {
     pub bytes: [u8; 52],
     pub time: u32,

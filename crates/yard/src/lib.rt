@@ -34,7 +34,7 @@ const WALK_START: u32 = 23;
 const WALK_REQUEST: u32 = 24;
 
 // What a walk answers: its end, its steps (calls of the engine), and the type 4 blocks and the length of the last message sent.
-#[derive(Drop)]
+#[derive(Clone, Copy)]
 pub struct Walked {
     pub end: u32,
     pub steps: u32,
