@@ -1,0 +1,16 @@
+-- `blocks_of`: what the whole message gives is what was found so far, joined with what the blocks from here on give.
+-- A block is not empty and lies within the message, so the place moves on and stays inside.
+use Prim.Native.Nat.{◌≤◌, ◌-◌}
+use mathlib.Core.Path.{◌≡◌}
+use native.Mathlib.Omega.{arith}
+use lib.ListN.{length, drop}
+use Rattle.message.specs.Blocks.{blocks_from}
+use Rattle.message.specs.Inside.{blocks_seen}
+use Rattle.message.proofs.Turns.{joined, at_first, stopped, standard_on, standard_inside, standard_moves, augmented_on, augmented_inside, augmented_moves}
+use Rattle.message.proofs.blocks_of.Given as goal
+
+abbrev pub invariant-loop-last : goal.invariant-loop-last
+invariant-loop-last l = (l.at ≤ length l.s) × (l.count ≤ l.at) × (blocks_seen l.f l.s ≡ joined l.at l.count l.last (blocks_from l.f l.at (drop l.at l.s)))
+
+abbrev pub decreases-loop-last : goal.decreases-loop-last
+decreases-loop-last l = length l.s - l.at

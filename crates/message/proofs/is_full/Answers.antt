@@ -1,0 +1,13 @@
+-- `is_full`: what passes the smaller of two passes one of them.
+use Prim.Native.Nat.{◌+◌}
+use native.Mathlib.Omega.{arith}
+use Rattle.format.specs.Sizes.{ip_and_udp}
+use Rattle.message.proofs.Rows.{past_room}
+use borrow.Author.Rules.{rules}
+use Rattle.message.proofs.is_full.Goals as goal
+
+pub returns : goal.returns
+returns c =
+    let start = c in
+    let f = start.args.f in
+    past_room f.most start.args.mtu ip_and_udp (start.args.size + f.block) (omega (arith, start.requires.sound.moves))

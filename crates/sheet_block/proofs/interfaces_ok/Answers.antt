@@ -1,0 +1,39 @@
+-- `interfaces_ok`: the first j interfaces keep their rules.
+use Prim.Native.Nat.{◌-◌, ◌≤◌}
+use mathlib.Core.Bool.{true}
+use mathlib.Core.Path.{◌≡◌, refl}
+use native.Mathlib.Omega.{arith}
+use Rattle.sheet_block.specs.Every.{every}
+use Rattle.sheet_block.specs.Rules.{interface_right, entries_ok}
+use Rattle.sheet_block.proofs.Frames.{interface_within}
+use Rattle.sheet_block.proofs.Laws.{every-next, every_stops, every_all}
+use borrow.Author.Rules.{rules}
+use Rattle.sheet_block.proofs.interfaces_ok.Goals as goal
+
+pub loop-j-init : goal.loop-j-init
+unfolding every
+loop-j-init c = (omega arith, refl)
+
+pub overflow_mul-f : goal.overflow_mul-f
+overflow_mul-f c =
+    let start = c in
+    omega (arith, interface_within start.requires.sound _ _ c.loop-j-test.true start.requires.b_len.1)
+
+pub overflow_add-f : goal.overflow_add-f
+overflow_add-f c =
+    let start = c in
+    omega (arith, interface_within start.requires.sound _ _ c.loop-j-test.true start.requires.b_len.1)
+
+pub interface_ok-requires : goal.interface_ok-requires
+interface_ok-requires c =
+    let start = c in
+    omega (arith, interface_within start.requires.sound _ _ c.loop-j-test.true start.requires.b_len.1)
+
+pub returns-then-not-interface_ok : goal.returns-then-not-interface_ok
+returns-then-not-interface_ok c = search every_stops
+
+pub loop-j-preserved : goal.loop-j-preserved
+loop-j-preserved c = (omega arith, search every-next)
+
+pub returns : goal.returns
+returns c = search every_all

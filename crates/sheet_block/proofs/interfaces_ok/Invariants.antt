@@ -1,0 +1,16 @@
+-- `interfaces_ok`: the first j interfaces keep their rules.
+use Prim.Native.Nat.{◌-◌, ◌≤◌}
+use mathlib.Core.Bool.{true}
+use mathlib.Core.Path.{◌≡◌, refl}
+use native.Mathlib.Omega.{arith}
+use Rattle.sheet_block.specs.Every.{every}
+use Rattle.sheet_block.specs.Rules.{interface_right, entries_ok}
+use Rattle.sheet_block.proofs.Frames.{interface_within}
+use Rattle.sheet_block.proofs.Laws.{every-next, every_stops, every_all}
+use Rattle.sheet_block.proofs.interfaces_ok.Given as goal
+
+abbrev pub invariant-loop-j : goal.invariant-loop-j
+invariant-loop-j l = (l.j ≤ l.used) × (true ≡ entries_ok l.f.interface (interface_right l.f) l.b l.j)
+
+abbrev pub decreases-loop-j : goal.decreases-loop-j
+decreases-loop-j l = l.used - l.j
