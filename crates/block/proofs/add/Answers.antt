@@ -1,7 +1,6 @@
 -- `add`: one of the two additions at most carries.
 use Rattle.block.proofs.Alike.{added}
 use Rattle.std.proofs.Common.{rules}
-use borrow.Author.Rules.{rules}
 use Rattle.block.proofs.add.Goals as goal
 
 pub returns : goal.returns

@@ -1,7 +1,6 @@
 -- `add_sixteen`: two words more at each call.
 use Rattle.std.proofs.Common.{arith, rules}
 use Rattle.block.proofs.Alike.{summed_to}
-use borrow.Author.Rules.{rules}
 use Rattle.block.proofs.add_sixteen.Goals as goal
 
 pub add_two-requires-2 : goal.add_two-requires-2

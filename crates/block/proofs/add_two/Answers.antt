@@ -1,7 +1,6 @@
 -- `add_two`: both words as one.
 use Rattle.block.proofs.Alike.{two_more}
 use Rattle.std.proofs.Common.{rules}
-use borrow.Author.Rules.{rules}
 use Rattle.block.proofs.add_two.Goals as goal
 
 pub returns : goal.returns

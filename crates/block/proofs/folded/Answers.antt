@@ -1,7 +1,6 @@
 -- `folded`: what stands above 32 bits counts once.
 use Rattle.std.proofs.Common.{refl, rules}
 use Rattle.block.proofs.Alike.{folded_long}
-use borrow.Author.Rules.{rules}
 use Rattle.block.proofs.folded.Goals as goal
 
 pub returns : goal.returns

@@ -2,7 +2,6 @@
 use Rattle.std.proofs.Common.{ℕ, ◌<◌, rules}
 use Rattle.wire.specs.Numbers.{byte_at}
 use Rattle.block.proofs.Frames.{wrong_head, in_use_fit, wrong_rest, framed_full, framed_partly}
-use borrow.Author.Rules.{rules}
 use Rattle.block.proofs.frame_ok.Goals as goal
 
 pub returns-then-b-kind : goal.returns-then-b-kind

@@ -1,7 +1,6 @@
 -- `sum_block`: sixteen words more at each call.
 use Rattle.std.proofs.Common.{refl, arith, rules}
 use Rattle.block.proofs.Alike.{alike_on, none_summed}
-use borrow.Author.Rules.{rules}
 use Rattle.block.proofs.sum_block.Goals as goal
 
 pub add_sixteen-requires : goal.add_sixteen-requires

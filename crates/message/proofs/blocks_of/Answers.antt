@@ -24,9 +24,8 @@ returns-then-size-eq0 c = search stopped
 
 pub overflow_add-at-else-standard_at : goal.overflow_add-at-else-standard_at
 overflow_add-at-else-standard_at c =
-    let b = c in
-    let inside = augmented_inside b.requires.sound _ _ _ b.standard_at.ensures b.if-standard_at.false _ c.augmented_at-size.ensures c.if-size-eq0.false in
-    omega (arith, inside b.loop-last.invariant.0)
+    let inside = augmented_inside c.requires.sound _ _ _ c.standard_at.ensures c.if-standard_at.false _ c.augmented_at-size.ensures c.if-size-eq0.false in
+    omega (arith, inside c.loop-last.invariant.0)
 
 pub loop-last-smaller : goal.loop-last-smaller
 loop-last-smaller c = search augmented_moves

@@ -8,6 +8,5 @@ use Rattle.message.proofs.is_full.Goals as goal
 
 pub returns : goal.returns
 returns c =
-    let start = c in
-    let f = start.args.f in
-    past_room f.most start.args.mtu ip_and_udp (start.args.size + f.block) (omega (arith, start.requires.sound.moves))
+    let f = c.args.f in
+    past_room f.most c.args.mtu ip_and_udp (c.args.size + f.block) (omega (arith, c.requires.sound.moves))

@@ -16,18 +16,15 @@ loop-j-init c = (omega arith, refl)
 
 pub overflow_mul-f : goal.overflow_mul-f
 overflow_mul-f c =
-    let start = c in
-    omega (arith, interface_within start.requires.sound _ _ c.loop-j-test.true start.requires.b_len.1)
+    omega (arith, interface_within c.requires.sound _ _ c.loop-j-test.true c.requires.b_len.1)
 
 pub overflow_add-f : goal.overflow_add-f
 overflow_add-f c =
-    let start = c in
-    omega (arith, interface_within start.requires.sound _ _ c.loop-j-test.true start.requires.b_len.1)
+    omega (arith, interface_within c.requires.sound _ _ c.loop-j-test.true c.requires.b_len.1)
 
 pub interface_ok-requires : goal.interface_ok-requires
 interface_ok-requires c =
-    let start = c in
-    omega (arith, interface_within start.requires.sound _ _ c.loop-j-test.true start.requires.b_len.1)
+    omega (arith, interface_within c.requires.sound _ _ c.loop-j-test.true c.requires.b_len.1)
 
 pub returns-then-not-interface_ok : goal.returns-then-not-interface_ok
 returns-then-not-interface_ok c = search every_stops

@@ -16,18 +16,15 @@ loop-j-init c = (omega arith, refl)
 
 pub overflow_mul-f : goal.overflow_mul-f
 overflow_mul-f c =
-    let start = c in
-    omega (arith, route_entry_within start.requires.sound _ _ c.loop-j-test.true start.requires.b_len.1)
+    omega (arith, route_entry_within c.requires.sound _ _ c.loop-j-test.true c.requires.b_len.1)
 
 pub overflow_add-f : goal.overflow_add-f
 overflow_add-f c =
-    let start = c in
-    omega (arith, route_entry_within start.requires.sound _ _ c.loop-j-test.true start.requires.b_len.1)
+    omega (arith, route_entry_within c.requires.sound _ _ c.loop-j-test.true c.requires.b_len.1)
 
 pub route_ok-requires : goal.route_ok-requires
 route_ok-requires c =
-    let start = c in
-    (omega (arith, route_entry_within start.requires.sound _ _ c.loop-j-test.true start.requires.b_len.1), search rules, search rules)
+    (omega (arith, route_entry_within c.requires.sound _ _ c.loop-j-test.true c.requires.b_len.1), search rules, search rules)
 
 pub returns-then-not-route_ok : goal.returns-then-not-route_ok
 returns-then-not-route_ok c = search every_stops

@@ -5,12 +5,11 @@ use borrow.Author.Rules.{rules}
 use Rattle.clock.proofs.Clock.time_for.Goals as goal
 
 pub returns-then-y-r : goal.returns-then-y-r
-returns-then-y-r c = let start = c in omega (arith, time_caught start.args.self start.args.t start.requires (omega arith))
+returns-then-y-r c = omega (arith, time_caught c.args.self c.args.t c.requires (omega arith))
 
 pub returns-then-t-far : goal.returns-then-t-far
-returns-then-t-far c = let start = c in omega (arith, time_ahead start.args.self start.args.t start.requires (omega arith))
+returns-then-t-far c = omega (arith, time_ahead c.args.self c.args.t c.requires (omega arith))
 
 pub returns : goal.returns
 returns c =
-    let start = c in
-    omega (arith, c.smaller.ensures, time_ahead start.args.self start.args.t start.requires (omega arith))
+    omega (arith, c.smaller.ensures, time_ahead c.args.self c.args.t c.requires (omega arith))

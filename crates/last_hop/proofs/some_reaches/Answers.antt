@@ -1,0 +1,32 @@
+-- `some_reaches`: none of the first k interfaces reaches the client.
+use Prim.Native.Nat.{◌-◌, ◌≤◌}
+use mathlib.Core.Bool.{false}
+use mathlib.Core.Path.{◌≡◌, refl}
+use native.Mathlib.Omega.{arith}
+use Rattle.tables.specs.Tables.{interface_of}
+use Rattle.last_hop.specs.LastHop.{some_reaches}
+use Rattle.last_hop.proofs.Reached.{bit_there, interface-counted, map_over, reached, not_reached, none_reached}
+use borrow.Author.Rules.{rules}
+use Rattle.last_hop.proofs.some_reaches.Goals as goal
+
+pub loop-k-init : goal.loop-k-init
+unfolding some_reaches
+loop-k-init c = (omega arith, refl)
+
+pub overflow_shr-map : goal.overflow_shr-map
+overflow_shr-map c = search bit_there
+
+pub returns-then-map-eq0 : goal.returns-then-map-eq0
+returns-then-map-eq0 c = search map_over
+
+pub reaches-requires : goal.reaches-requires
+reaches-requires c = search interface-counted
+
+pub returns-then-reaches : goal.returns-then-reaches
+returns-then-reaches c = search reached
+
+pub loop-k-preserved : goal.loop-k-preserved
+loop-k-preserved c = (omega arith, search not_reached)
+
+pub returns : goal.returns
+returns c = search none_reached
