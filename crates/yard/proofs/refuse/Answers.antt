@@ -4,11 +4,8 @@ use lib.Dec.{lit≤}
 use Rattle.format.specs.Sizes.{ipv4_sound}
 use Rattle.written.proofs.Laws.{ipv4_writes}
 use Rattle.yard.proofs.Rows.{no_block}
-use Rattle.yard.proofs.refuse.Statement.{statement}
-use Rattle.yard.proofs.refuse.Tie as tie
+use borrow.Author.Rules.{rules}
+use Rattle.yard.proofs.refuse.Goals as goal
 
-returns : tie.Need-returns
+pub returns : goal.returns
 returns c = rw (← no_block ipv4_sound ipv4_writes [] (lit≤ tt))
-
-pub refuse_spec : {M : Type 1} → statement M
-refuse_spec = tie.close (tie.spec returns)

@@ -1,0 +1,13 @@
+-- `code_of`: by the route chosen, as the definition goes.
+use Rattle.forwarding.proofs.Rows.{code_found, code_none_wrong, code_none}
+use borrow.Author.Rules.{rules}
+use Rattle.forwarding.proofs.code_of.Goals as goal
+
+pub returns-then-v : goal.returns-then-v
+returns-then-v c = search code_none_wrong
+
+pub returns-in-Found : goal.returns-in-Found
+returns-in-Found c = search code_found
+
+pub returns-else-v : goal.returns-else-v
+returns-else-v c = search code_none

@@ -1,0 +1,24 @@
+-- `holder_in`: the whole search is the search from router i on.
+use Rattle.format.specs.Sizes.{ipv4, ipv4_sound}
+use Prim.Native.Nat.{◌≤◌, ◌-◌}
+use mathlib.Core.Path.{◌≡◌}
+use native.Mathlib.Omega.{arith}
+use Rattle.yard.specs.Yard.{lowest_from, holder_in}
+use Rattle.yard.proofs.Sheets.{count-told, search_start, search_found, search_on, search_none}
+use borrow.Author.Rules.{rules}
+use Rattle.yard.proofs.holder_in.Goals as goal
+
+pub loop-i-init : goal.loop-i-init
+loop-i-init c = (omega arith, search search_start)
+
+pub holder-found-requires : goal.holder-found-requires
+holder-found-requires c = record { sound = ipv4_sound; interfaces_value = search count-told }
+
+pub returns-in-At : goal.returns-in-At
+returns-in-At c = search search_found
+
+pub loop-i-preserved : goal.loop-i-preserved
+loop-i-preserved c = (omega arith, search search_on)
+
+pub returns : goal.returns
+returns c = search search_none

@@ -1,0 +1,18 @@
+-- `sheets_ok`: after i turns the first i sheets are right, and their interfaces are counted.
+use Rattle.format.specs.Sizes.{ipv4}
+use Prim.Native.Nat.{ℕ, ◌≤◌, ◌-◌}
+use mathlib.Core.Bool.{true}
+use mathlib.Core.Path.{◌≡◌, refl}
+use native.Mathlib.Omega.{arith}
+use lib.ListN.{length, length-set}
+use Rattle.sheet_block.specs.Every.{every}
+use Rattle.yard.specs.Yard.{valid_at}
+use Rattle.yard.specs.Inside.{Counted}
+use Rattle.yard.proofs.Sheets.{counted_none, checked_more, checked_wrong, counted_more, checked_all, counted_all}
+use Rattle.yard.proofs.sheets_ok.Given as goal
+
+abbrev pub invariant-loop-i : goal.invariant-loop-i
+invariant-loop-i l = (l.i ≤ l.n) × (length l.counts ≡ length l.initial.counts) × (true ≡ every (valid_at ipv4 l.yard) l.i) × Counted ipv4 l.yard l.counts l.i
+
+abbrev pub decreases-loop-i : goal.decreases-loop-i
+decreases-loop-i l = l.n - l.i
