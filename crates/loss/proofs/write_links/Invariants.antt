@@ -1,0 +1,12 @@
+-- `write_links`: the bytes at the end are those now, with the links from here on.
+use Prim.Native.Nat.{◌-◌}
+use native.Mathlib.Omega.{arith}
+use lib.ListN.{length}
+use Rattle.loss.proofs.Linking.{near_behind, near_inside, Between, between_first, ends_inside, one_behind, other_behind, link_inside, between_moves, between_on, between_over}
+use Rattle.loss.proofs.write_links.Given as goal
+
+abbrev pub invariant-loop-far : goal.invariant-loop-far
+invariant-loop-far l = Between l.first l.second l.initial.links l.links l.near l.near2 l.far l.far2 l.at
+
+abbrev pub decreases-loop-far : goal.decreases-loop-far
+decreases-loop-far l = length l.first - l.far
