@@ -4,98 +4,107 @@
 #![tactic(auto)]
 
 use clock::{Clock, Tick};
+use std::io;
+use std::io::{BufReader, BufWriter, Read, Write};
 
 // Whether there may be more commands, and the clock handed back last.
-#[derive(Drop)]
+#[derive(Clone, Copy)]
 struct Turn {
     more: bool,
     held: Clock,
 }
 
 // Ends a start's or an advance's line.
-fn answer(t: Tick) -> Turn {
-    tape::text(b" ->");
-    tape::then(t.number as u64);
+fn answer(out: &mut impl Write, t: Tick) -> io::Result<Turn> {
+    tape::text(out, b" ->")?;
+    tape::then(out, t.number as u64)?;
     let c = t.clock;
-    tape::then(c.r);
-    tape::then(c.y);
-    tape::then(t.time);
-    tape::end();
-    Turn {
+    tape::then(out, c.r)?;
+    tape::then(out, c.y)?;
+    tape::then(out, t.time)?;
+    tape::end(out)?;
+    Ok(Turn {
         more: true,
         held: c,
-    }
+    })
 }
 
-fn start(reading: u64) -> Turn {
-    tape::text(b"start");
-    tape::then(reading);
-    answer(Clock::start(reading))
+fn start(out: &mut impl Write, reading: u64) -> io::Result<Turn> {
+    tape::text(out, b"start")?;
+    tape::then(out, reading)?;
+    answer(out, Clock::start(reading))
 }
 
-fn advance(held: Clock, reading: u64) -> Turn {
-    tape::text(b"advance");
-    tape::then(held.r);
-    tape::then(held.y);
-    tape::then(reading);
-    answer(held.advance(reading))
+fn advance(out: &mut impl Write, held: Clock, reading: u64) -> io::Result<Turn> {
+    tape::text(out, b"advance")?;
+    tape::then(out, held.r)?;
+    tape::then(out, held.y)?;
+    tape::then(out, reading)?;
+    answer(out, held.advance(reading))
 }
 
-fn unix(seconds: u64, nanoseconds: u64) {
-    tape::text(b"unix");
-    tape::then(seconds);
-    tape::then(nanoseconds);
-    tape::text(b" ->");
+fn unix(out: &mut impl Write, seconds: u64, nanoseconds: u64) -> io::Result<()> {
+    tape::text(out, b"unix")?;
+    tape::then(out, seconds)?;
+    tape::then(out, nanoseconds)?;
+    tape::text(out, b" ->")?;
     let u = unix::unix(seconds, nanoseconds);
-    tape::then(u.number as u64);
-    tape::then(u.units);
-    tape::end();
+    tape::then(out, u.number as u64)?;
+    tape::then(out, u.units)?;
+    tape::end(out)
 }
 
-fn arrival(y: u64) {
-    tape::text(b"arrival");
-    tape::then(y);
-    tape::text(b" ->");
-    tape::then(clock::arrival(y) as u64);
-    tape::end();
+fn arrival(out: &mut impl Write, y: u64) -> io::Result<()> {
+    tape::text(out, b"arrival")?;
+    tape::then(out, y)?;
+    tape::text(out, b" ->")?;
+    tape::then(out, clock::arrival(y) as u64)?;
+    tape::end(out)
 }
 
 // Runs the next command.
-fn command(held: Clock) -> Turn {
+fn command(input: &mut impl Read, out: &mut impl Write, held: Clock) -> io::Result<Turn> {
     let mut bytes = [0u8; 32];
-    if !tape::next(&mut bytes) {
-        return Turn { more: false, held };
+    if !tape::next(input, &mut bytes)? {
+        return Ok(Turn { more: false, held });
     }
     let operation = bytes[0];
     let a = tape::number64(&bytes, 8);
     let b = tape::number64(&bytes, 16);
     let c = tape::number64(&bytes, 24);
     if operation == 1 {
-        return start(a);
+        return start(out, a);
     }
     if operation == 2 {
-        return advance(Clock { r: a, y: b }, c);
+        return advance(out, Clock { r: a, y: b }, c);
     }
     if operation == 3 {
-        return advance(held, a);
+        return advance(out, held, a);
     }
     if operation == 4 {
-        unix(a, b);
+        unix(out, a, b)?;
     } else {
-        arrival(a);
+        arrival(out, a)?;
     }
-    Turn { more: true, held }
+    Ok(Turn { more: true, held })
 }
 
-// Nothing says that the input ends, so the loop counts its turns down from more than are stored.
-fn main() {
-    let mut turns: u32 = 1000000;
-    let mut t = Turn {
-        more: true,
-        held: Clock { r: 0, y: 0 },
-    };
-    while turns > 0 && t.more {
-        t = command(t.held);
-        turns -= 1;
+// Nothing says that the input ends, so the loop counts its turns, of which there are more than any input has commands.
+fn run_all(input: &mut impl Read, out: &mut impl Write) -> io::Result<()> {
+    let mut held = Clock { r: 0, y: 0 };
+    for _ in 0..u64::MAX {
+        let t = command(input, out, held)?;
+        if !t.more {
+            break;
+        }
+        held = t.held;
     }
+    Ok(())
+}
+
+fn main(rt: HostRuntime) -> io::Result<()> {
+    let mut input = BufReader::new(rt.alloc(), rt.stdin())?;
+    let mut out = BufWriter::new(rt.alloc(), rt.stdout())?;
+    run_all(&mut input, &mut out)?;
+    out.flush()
 }

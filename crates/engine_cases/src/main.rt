@@ -3,6 +3,8 @@
 // the recent list, the output and the record, and 6 runs a step.
 #![tactic(auto)]
 
+use std::io;
+use std::io::{BufReader, BufWriter, Read, Write};
 
 // Areas longer than what is lent from them, so that their tails are seen to stay. The message's
 // has room for a length that would pass if it were cut to 16 bits.
@@ -16,11 +18,16 @@ const OUTPUT: usize = 1600;
 
 const RECORD: usize = 64;
 
-fn print_digests(recent: &[u8], output: &[u8], record: &[u8]) {
-    tape::then(tape::digest(output));
-    tape::then(tape::digest(record));
-    tape::then(tape::digest(recent));
-    tape::end();
+fn print_digests(
+    out: &mut impl Write,
+    recent: &[u8],
+    output: &[u8],
+    record: &[u8],
+) -> io::Result<()> {
+    tape::then(out, tape::digest(output))?;
+    tape::then(out, tape::digest(record))?;
+    tape::then(out, tape::digest(recent))?;
+    tape::end(out)
 }
 
 // The code at place `at` of what was sent.
@@ -41,11 +48,11 @@ fn step(
     let receiving = tape::number32(command, 20);
     let ttl = tape::number32(command, 24);
     let time = tape::number32(command, 28);
-    let m = io::count(tape::number32(command, 4) as isize, message);
-    let s = io::count(tape::number16(command, 8) as isize, sheet);
-    let l = io::count(tape::number16(command, 10) as isize, recent);
-    let o = io::count(tape::number16(command, 12) as isize, output);
-    let r = io::count(tape::number16(command, 14) as isize, record);
+    let m = tape::lent(tape::number32(command, 4), message);
+    let s = tape::lent(tape::number16(command, 8) as u32, sheet);
+    let l = tape::lent(tape::number16(command, 10) as u32, recent);
+    let o = tape::lent(tape::number16(command, 12) as u32, output);
+    let r = tape::lent(tape::number16(command, 14) as u32, record);
     engine::step(
         &message[..m],
         destination,
@@ -61,6 +68,7 @@ fn step(
 
 // Runs a step, and writes its answer, the code if something was sent, and a digest of each area.
 fn call(
+    out: &mut impl Write,
     command: &[u8; 32],
     message: &[u8],
     sheet: &[u8],
@@ -69,21 +77,23 @@ fn call(
     record: &mut [u8],
     answers: &mut [u64; 256],
     codes: &mut [u64; 256],
-) {
+) -> io::Result<()> {
     let answer = step(command, message, sheet, recent, output, record);
-    tape::text(b" ->");
-    tape::then(answer as u64);
+    tape::text(out, b" ->")?;
+    tape::then(out, answer as u64)?;
     tape::count(answers, answer);
     if answer >= 100 {
         let c = code(output, tape::number16(command, 2) as usize);
-        tape::then_byte(c);
+        tape::then_byte(out, c)?;
         tape::count(codes, c as u32);
     }
-    print_digests(recent, output, record);
+    print_digests(out, recent, output, record)
 }
 
 // Runs the next command, and answers whether there may be more.
 fn run(
+    input: &mut impl Read,
+    out: &mut impl Write,
     message: &mut [u8],
     sheet: &mut [u8],
     recent: &mut [u8],
@@ -91,14 +101,14 @@ fn run(
     record: &mut [u8],
     answers: &mut [u64; 256],
     codes: &mut [u64; 256],
-) -> bool {
+) -> io::Result<bool> {
     let mut command = [0u8; 32];
-    if !tape::next(&mut command) {
-        return false;
+    if !tape::next(input, &mut command)? {
+        return Ok(false);
     }
     let operation = command[0];
     if operation == 0 {
-        tape::label(&command);
+        tape::label(out, &command)?;
     } else if operation == 1 {
         tape::put(message, &command);
     } else if operation == 2 {
@@ -111,14 +121,16 @@ fn run(
         tape::put(record, &command);
     } else {
         call(
-            &command, message, sheet, recent, output, record, answers, codes,
-        );
+            out, &command, message, sheet, recent, output, record, answers, codes,
+        )?;
     }
-    true
+    Ok(true)
 }
 
-// Nothing says that the input ends, so the loop counts its turns down from more than are stored.
+// Nothing says that the input ends, so the loop counts its turns, of which there are more than any input has commands.
 fn run_all(
+    input: &mut impl Read,
+    out: &mut impl Write,
     message: &mut [u8],
     sheet: &mut [u8],
     recent: &mut [u8],
@@ -126,14 +138,20 @@ fn run_all(
     record: &mut [u8],
     answers: &mut [u64; 256],
     codes: &mut [u64; 256],
-) {
-    let mut turns: u32 = 1000000;
-    while turns > 0 && run(message, sheet, recent, output, record, answers, codes) {
-        turns -= 1;
+) -> io::Result<()> {
+    for _ in 0..u64::MAX {
+        if !run(
+            input, out, message, sheet, recent, output, record, answers, codes,
+        )? {
+            break;
+        }
     }
+    Ok(())
 }
 
-fn main() {
+fn main(rt: HostRuntime) -> io::Result<()> {
+    let mut input = BufReader::new(rt.alloc(), rt.stdin())?;
+    let mut out = BufWriter::new(rt.alloc(), rt.stdout())?;
     let mut message = [0u8; MESSAGE];
     let mut sheet = [0u8; SHEET];
     let mut recent = [0u8; RECENT];
@@ -142,6 +160,8 @@ fn main() {
     let mut answers = [0u64; 256];
     let mut codes = [0u64; 256];
     run_all(
+        &mut input,
+        &mut out,
         &mut message,
         &mut sheet,
         &mut recent,
@@ -149,7 +169,8 @@ fn main() {
         &mut record,
         &mut answers,
         &mut codes,
-    );
-    tape::print_table(b"answer", &answers);
-    tape::print_table(b"code", &codes);
+    )?;
+    tape::print_table(&mut out, b"answer", &answers)?;
+    tape::print_table(&mut out, b"code", &codes)?;
+    out.flush()
 }

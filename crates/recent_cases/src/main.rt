@@ -2,14 +2,16 @@
 // label, 1 changes the list, 2 checks its first bytes, 3 looks for a client and an id, and 4 enters them.
 #![tactic(auto)]
 
+use std::io;
+use std::io::{BufReader, BufWriter, Read, Write};
 
 // Room for more than a list, so that its tail is seen to stay.
 const AREA: usize = 512;
 
-fn check(list: &[u8]) {
-    tape::text(b" ->");
-    tape::whether(recent::check(list));
-    tape::end();
+fn check(out: &mut impl Write, list: &[u8]) -> io::Result<()> {
+    tape::text(out, b" ->")?;
+    tape::whether(out, recent::check(list))?;
+    tape::end(out)
 }
 
 // Whether a list is well-formed and has a client and an id.
@@ -28,61 +30,67 @@ fn enter(list: &mut [u8], client: u32, id: u16) {
     }
 }
 
-fn print(area: &[u8]) {
+fn print(out: &mut impl Write, area: &[u8]) -> io::Result<()> {
     if area.len() > 1 {
-        tape::text(b" ->");
-        tape::then_byte(area[0]);
-        tape::then_byte(area[1]);
-        tape::then(tape::digest(area));
-        tape::end();
+        tape::text(out, b" ->")?;
+        tape::then_byte(out, area[0])?;
+        tape::then_byte(out, area[1])?;
+        tape::then(out, tape::digest(area))?;
+        tape::end(out)?;
     }
+    Ok(())
 }
 
 // Runs a command on the list.
-fn call(area: &mut [u8], command: &[u8; 32]) {
+fn call(out: &mut impl Write, area: &mut [u8], command: &[u8; 32]) -> io::Result<()> {
     let operation = command[0];
     let client = tape::number32(command, 12);
     let id = tape::number16(command, 22);
-    let n = io::count(recent::LIST_SIZE as isize, area);
+    let n = area.len().min(recent::LIST_SIZE);
     if operation == 3 {
-        tape::text(b" ->");
-        tape::whether(seen(&area[..n], client, id));
-        tape::end();
+        tape::text(out, b" ->")?;
+        tape::whether(out, seen(&area[..n], client, id))?;
+        tape::end(out)
     } else {
         enter(&mut area[..n], client, id);
-        print(area);
+        print(out, area)
     }
 }
 
 // Runs the next command, and answers whether there may be more.
-fn run(area: &mut [u8]) -> bool {
+fn run(input: &mut impl Read, out: &mut impl Write, area: &mut [u8]) -> io::Result<bool> {
     let mut command = [0u8; 32];
-    if !tape::next(&mut command) {
-        return false;
+    if !tape::next(input, &mut command)? {
+        return Ok(false);
     }
     let operation = command[0];
     if operation == 0 {
-        tape::label(&command);
+        tape::label(out, &command)?;
     } else if operation == 1 {
         tape::put(area, &command);
     } else if operation == 2 {
-        let n = io::count(tape::number32(&command, 12) as isize, area);
-        check(&area[..n]);
+        let n = tape::lent(tape::number32(&command, 12), area);
+        check(out, &area[..n])?;
     } else {
-        call(area, &command);
+        call(out, area, &command)?;
     }
-    true
+    Ok(true)
 }
 
-// Nothing says that the input ends, so the loop counts its turns down from more than are stored.
-fn run_all(area: &mut [u8]) {
-    let mut turns: u32 = 1000000;
-    while turns > 0 && run(area) {
-        turns -= 1;
+// Nothing says that the input ends, so the loop counts its turns, of which there are more than any input has commands.
+fn run_all(input: &mut impl Read, out: &mut impl Write, area: &mut [u8]) -> io::Result<()> {
+    for _ in 0..u64::MAX {
+        if !run(input, out, area)? {
+            break;
+        }
     }
+    Ok(())
 }
 
-fn main() {
+fn main(rt: HostRuntime) -> io::Result<()> {
+    let mut input = BufReader::new(rt.alloc(), rt.stdin())?;
+    let mut out = BufWriter::new(rt.alloc(), rt.stdout())?;
     let mut area = [0u8; AREA];
-    run_all(&mut area);
+    run_all(&mut input, &mut out, &mut area)?;
+    out.flush()
 }

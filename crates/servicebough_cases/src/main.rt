@@ -3,9 +3,10 @@
 // time, and 7 to 12 call an entry.
 #![tactic(auto)]
 
+ghost use Rattle.std.specs.Prelude.{◌≡◌, ◌+◌, ◌≤◌, length};
 
-ghost use Rattle.std.specs.Prelude.{◌+◌, ◌≤◌};
-ghost use Rattle.io.specs.Counts.{IsPrefixLen};
+use std::io;
+use std::io::{BufReader, BufWriter, Read, Write};
 
 // Areas longer than what is lent from them, so that their tails are seen to stay.
 const MESSAGE: usize = 1600;
@@ -21,30 +22,30 @@ const HANDED: usize = 40;
 // As many bytes of an area as a command says.
 fn lent(command: &[u8; 32], at: usize, area: &[u8]) -> usize
     requires { at + 2 ≤ 32 }
-    ensures { IsPrefixLen result area.now }
+    ensures { result ≤ length area.now }
 {
-    io::count(tape::number16(command, at) as isize, area)
+    tape::lent(tape::number16(command, at) as u32, area)
 }
 
 // Ends the line of a reading: its number, r, y and the time, and a digest of the area.
-fn told(number: u32, handed: &[u8]) {
-    tape::then(number as u64);
+fn told(out: &mut impl Write, number: u32, handed: &[u8]) -> io::Result<()> {
+    tape::then(out, number as u64)?;
     if 24 <= handed.len() {
-        tape::then(wire::be64(handed, 0));
-        tape::then(wire::be64(handed, 8));
-        tape::then(wire::be64(handed, 16));
+        tape::then(out, wire::be64(handed, 0))?;
+        tape::then(out, wire::be64(handed, 8))?;
+        tape::then(out, wire::be64(handed, 16))?;
     }
-    tape::then(tape::digest(handed));
-    tape::end();
+    tape::then(out, tape::digest(handed))?;
+    tape::end(out)
 }
 
-fn start(command: &[u8; 32], handed: &mut [u8]) {
+fn start(out: &mut impl Write, command: &[u8; 32], handed: &mut [u8]) -> io::Result<()> {
     let n = lent(command, 2, handed);
     let number = servicebough::bough_clock_start(tape::number64(command, 8), &mut handed[..n]);
-    told(number, handed);
+    told(out, number, handed)
 }
 
-fn advance(command: &[u8; 32], handed: &mut [u8]) {
+fn advance(out: &mut impl Write, command: &[u8; 32], handed: &mut [u8]) -> io::Result<()> {
     let n = lent(command, 2, handed);
     let number = servicebough::bough_clock_advance(
         tape::number64(command, 8),
@@ -52,31 +53,34 @@ fn advance(command: &[u8; 32], handed: &mut [u8]) {
         tape::number64(command, 24),
         &mut handed[..n],
     );
-    told(number, handed);
+    told(out, number, handed)
 }
 
-fn unix(command: &[u8; 32]) {
-    tape::then(servicebough::bough_clock_unix(
+fn unix(out: &mut impl Write, command: &[u8; 32]) -> io::Result<()> {
+    let units = servicebough::bough_clock_unix(
         tape::number64(command, 8),
         tape::number64(command, 16),
-    ));
-    tape::end();
+    );
+    tape::then(out, units)?;
+    tape::end(out)
 }
 
-fn arrival(command: &[u8; 32]) {
-    tape::then(servicebough::bough_clock_arrival(tape::number64(command, 8)) as u64);
-    tape::end();
+fn arrival(out: &mut impl Write, command: &[u8; 32]) -> io::Result<()> {
+    let time = servicebough::bough_clock_arrival(tape::number64(command, 8));
+    tape::then(out, time as u64)?;
+    tape::end(out)
 }
 
 // A step's line: its number, and digests of what was lent to be written.
 fn step(
+    out: &mut impl Write,
     command: &[u8; 32],
     message: &[u8],
     tables: &[u8],
     recent: &mut [u8],
     output: &mut [u8],
     handed: &mut [u8],
-) {
+) -> io::Result<()> {
     let m = lent(command, 2, message);
     let s = lent(command, 4, tables);
     let r = lent(command, 6, recent);
@@ -93,24 +97,25 @@ fn step(
         &mut output[..o],
         &mut handed[..h],
     );
-    tape::then(number as u64);
-    tape::then(tape::digest(recent));
-    tape::then(tape::digest(output));
-    tape::then(tape::digest(handed));
-    tape::end();
+    tape::then(out, number as u64)?;
+    tape::then(out, tape::digest(recent))?;
+    tape::then(out, tape::digest(output))?;
+    tape::then(out, tape::digest(handed))?;
+    tape::end(out)
 }
 
 // A walk's line: the same.
 fn walk(
+    out: &mut impl Write,
     command: &[u8; 32],
     message: &[u8],
     tables: &[u8],
     times: &[u32],
     output: &mut [u8],
     handed: &mut [u8],
-) {
+) -> io::Result<()> {
     let m = lent(command, 2, message);
-    let y = io::count(tape::number32(command, 4) as isize, tables);
+    let y = tape::lent(tape::number32(command, 4), tables);
     let o = lent(command, 8, output);
     let h = lent(command, 10, handed);
     let t = tape::number16(command, 28) as usize;
@@ -126,29 +131,31 @@ fn walk(
             &mut output[..o],
             &mut handed[..h],
         );
-        tape::then(number as u64);
-        tape::then(tape::digest(output));
-        tape::then(tape::digest(handed));
-        tape::end();
+        tape::then(out, number as u64)?;
+        tape::then(out, tape::digest(output))?;
+        tape::then(out, tape::digest(handed))?;
+        tape::end(out)?;
     }
+    Ok(())
 }
 
 // Calls an entry of the clock.
-fn tick(command: &[u8; 32], handed: &mut [u8]) {
+fn tick(out: &mut impl Write, command: &[u8; 32], handed: &mut [u8]) -> io::Result<()> {
     let operation = command[0];
     if operation == 7 {
-        start(command, handed);
+        start(out, command, handed)
     } else if operation == 8 {
-        advance(command, handed);
+        advance(out, command, handed)
     } else if operation == 9 {
-        unix(command);
+        unix(out, command)
     } else {
-        arrival(command);
+        arrival(out, command)
     }
 }
 
 // Calls an entry.
 fn call(
+    out: &mut impl Write,
     command: &[u8; 32],
     message: &[u8],
     tables: &[u8],
@@ -156,20 +163,21 @@ fn call(
     recent: &mut [u8],
     output: &mut [u8],
     handed: &mut [u8],
-) {
+) -> io::Result<()> {
     let operation = command[0];
-    tape::text(b" ->");
+    tape::text(out, b" ->")?;
     if operation == 12 {
-        walk(command, message, tables, times, output, handed);
+        walk(out, command, message, tables, times, output, handed)
     } else if operation == 11 {
-        step(command, message, tables, recent, output, handed);
+        step(out, command, message, tables, recent, output, handed)
     } else {
-        tick(command, handed);
+        tick(out, command, handed)
     }
 }
 
 // Changes an area or a time, or calls an entry.
 fn obey(
+    out: &mut impl Write,
     command: &[u8; 32],
     message: &mut [u8],
     tables: &mut [u8],
@@ -177,7 +185,7 @@ fn obey(
     recent: &mut [u8],
     output: &mut [u8],
     handed: &mut [u8],
-) {
+) -> io::Result<()> {
     let operation = command[0];
     if operation == 1 {
         tape::put(message, command);
@@ -192,47 +200,58 @@ fn obey(
     } else if operation == 6 {
         tape::set_time(times, command);
     } else {
-        call(command, message, tables, times, recent, output, handed);
+        call(out, command, message, tables, times, recent, output, handed)?;
     }
+    Ok(())
 }
 
 // Runs the next command, and answers whether there may be more.
 fn run(
+    input: &mut impl Read,
+    out: &mut impl Write,
     message: &mut [u8],
     tables: &mut [u8],
     times: &mut [u32],
     recent: &mut [u8],
     output: &mut [u8],
     handed: &mut [u8],
-) -> bool {
+) -> io::Result<bool> {
     let mut command = [0u8; 32];
-    if !tape::next(&mut command) {
-        return false;
+    if !tape::next(input, &mut command)? {
+        return Ok(false);
     }
     if command[0] == 0 {
-        tape::label(&command);
+        tape::label(out, &command)?;
     } else {
-        obey(&command, message, tables, times, recent, output, handed);
+        obey(
+            out, &command, message, tables, times, recent, output, handed,
+        )?;
     }
-    true
+    Ok(true)
 }
 
-// Nothing says that the input ends, so the loop counts its turns down from more than are stored.
+// Nothing says that the input ends, so the loop counts its turns, of which there are more than any input has commands.
 fn run_all(
+    input: &mut impl Read,
+    out: &mut impl Write,
     message: &mut [u8],
     tables: &mut [u8],
     times: &mut [u32],
     recent: &mut [u8],
     output: &mut [u8],
     handed: &mut [u8],
-) {
-    let mut turns: u32 = 1000000;
-    while turns > 0 && run(message, tables, times, recent, output, handed) {
-        turns -= 1;
+) -> io::Result<()> {
+    for _ in 0..u64::MAX {
+        if !run(input, out, message, tables, times, recent, output, handed)? {
+            break;
+        }
     }
+    Ok(())
 }
 
-fn main() {
+fn main(rt: HostRuntime) -> io::Result<()> {
+    let mut input = BufReader::new(rt.alloc(), rt.stdin())?;
+    let mut out = BufWriter::new(rt.alloc(), rt.stdout())?;
     let mut message = [0u8; MESSAGE];
     let mut tables = [0u8; TABLES];
     let mut times = [0u32; 40];
@@ -240,11 +259,14 @@ fn main() {
     let mut output = [0u8; OUTPUT];
     let mut handed = [0u8; HANDED];
     run_all(
+        &mut input,
+        &mut out,
         &mut message,
         &mut tables,
         &mut times,
         &mut recent,
         &mut output,
         &mut handed,
-    );
+    )?;
+    out.flush()
 }

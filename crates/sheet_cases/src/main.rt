@@ -3,21 +3,23 @@
 // and a route, and 5 looks for an address.
 #![tactic(auto)]
 
+use std::io;
+use std::io::{BufReader, BufWriter, Read, Write};
 use tables::Holding;
 
 // Room for one block more than a sheet may have.
 const AREA: usize = 8704;
 
-fn check(s: &[u8]) {
+fn check(out: &mut impl Write, s: &[u8]) -> io::Result<()> {
     let l = sheet::check(s);
-    tape::text(b" ->");
-    tape::whether(l.valid);
+    tape::text(out, b" ->")?;
+    tape::whether(out, l.valid)?;
     if l.valid {
-        tape::then(l.interfaces as u64);
-        tape::then(l.routes as u64);
-        tape::whether(prohibited(s));
+        tape::then(out, l.interfaces as u64)?;
+        tape::then(out, l.routes as u64)?;
+        tape::whether(out, prohibited(s))?;
     }
-    tape::end();
+    tape::end(out)
 }
 
 fn prohibited(s: &[u8]) -> bool {
@@ -25,111 +27,119 @@ fn prohibited(s: &[u8]) -> bool {
     l.valid && tables::prohibited(s)
 }
 
-fn print_interface(e: interface::Interface) {
-    tape::text(b" ->");
-    tape::then(e.address as u64);
-    tape::then(e.length as u64);
-    tape::then(e.flags as u64);
-    tape::then(e.threshold as u64);
-    tape::then(e.zero as u64);
-    tape::then(e.input);
-    tape::then(e.output);
-    tape::then(e.mtu as u64);
-    tape::then(e.zeros as u64);
-    tape::end();
+fn print_interface(out: &mut impl Write, e: interface::Interface) -> io::Result<()> {
+    tape::text(out, b" ->")?;
+    tape::then(out, e.address as u64)?;
+    tape::then(out, e.length as u64)?;
+    tape::then(out, e.flags as u64)?;
+    tape::then(out, e.threshold as u64)?;
+    tape::then(out, e.zero as u64)?;
+    tape::then(out, e.input)?;
+    tape::then(out, e.output)?;
+    tape::then(out, e.mtu as u64)?;
+    tape::then(out, e.zeros as u64)?;
+    tape::end(out)
 }
 
-fn interface(s: &[u8], i: usize) {
+fn interface(out: &mut impl Write, s: &[u8], i: usize) -> io::Result<()> {
     let l = sheet::check(s);
     if i < l.interfaces {
-        print_interface(interface::interface_at(s, tables::interface_place(format::IPV4, i)));
+        let e = interface::interface_at(s, tables::interface_place(format::IPV4, i));
+        print_interface(out, e)?;
     }
+    Ok(())
 }
 
-fn print_addresses(e: route_entry::Route) {
-    tape::text(b" ->");
-    tape::then(e.kind as u64);
-    tape::then(e.length as u64);
-    tape::then(e.flags as u64);
-    tape::then(e.zero as u64);
-    tape::then(e.source as u64);
-    tape::then(e.group as u64);
-    tape::then(e.upstream as u64);
-    tape::then(e.incoming as u64);
+fn print_addresses(out: &mut impl Write, e: route_entry::Route) -> io::Result<()> {
+    tape::text(out, b" ->")?;
+    tape::then(out, e.kind as u64)?;
+    tape::then(out, e.length as u64)?;
+    tape::then(out, e.flags as u64)?;
+    tape::then(out, e.zero as u64)?;
+    tape::then(out, e.source as u64)?;
+    tape::then(out, e.group as u64)?;
+    tape::then(out, e.upstream as u64)?;
+    tape::then(out, e.incoming as u64)
 }
 
-fn print_counts(e: route_entry::Route) {
-    tape::then(e.protocol as u64);
-    tape::then(e.multicast as u64);
-    tape::then(e.zeros as u64);
-    tape::then(e.packets);
-    tape::then(e.forward);
-    tape::then(e.pruned);
-    tape::then(e.stopped);
-    tape::end();
+fn print_counts(out: &mut impl Write, e: route_entry::Route) -> io::Result<()> {
+    tape::then(out, e.protocol as u64)?;
+    tape::then(out, e.multicast as u64)?;
+    tape::then(out, e.zeros as u64)?;
+    tape::then(out, e.packets)?;
+    tape::then(out, e.forward)?;
+    tape::then(out, e.pruned)?;
+    tape::then(out, e.stopped)?;
+    tape::end(out)
 }
 
-fn route(s: &[u8], k: usize) {
+fn route(out: &mut impl Write, s: &[u8], k: usize) -> io::Result<()> {
     let l = sheet::check(s);
     if k < l.routes {
         let e = route_entry::route_at(s, tables::route_place(format::IPV4, l, k));
-        print_addresses(e);
-        print_counts(e);
+        print_addresses(out, e)?;
+        print_counts(out, e)?;
     }
+    Ok(())
 }
 
-fn holder(s: &[u8], address: u32) {
+fn holder(out: &mut impl Write, s: &[u8], address: u32) -> io::Result<()> {
     let l = sheet::check(s);
-    tape::text(b" ->");
+    tape::text(out, b" ->")?;
     match tables::holder(format::IPV4, s, l.interfaces, address) {
-        Holding::At(i) => tape::then(i as u64),
-        Holding::Nowhere => tape::then(65535),
+        Holding::At(i) => tape::then(out, i as u64)?,
+        Holding::Nowhere => tape::then(out, 65535)?,
     }
-    tape::end();
+    tape::end(out)
 }
 
 // Runs a command on the sheet that it names.
-fn call(s: &[u8], command: &[u8; 32]) {
+fn call(out: &mut impl Write, s: &[u8], command: &[u8; 32]) -> io::Result<()> {
     let operation = command[0];
     let a = tape::number32(command, 20);
     if operation == 2 {
-        check(s);
+        check(out, s)
     } else if operation == 3 {
-        interface(s, a as usize);
+        interface(out, s, a as usize)
     } else if operation == 4 {
-        route(s, a as usize);
+        route(out, s, a as usize)
     } else {
-        holder(s, a);
+        holder(out, s, a)
     }
 }
 
 // Runs the next command, and answers whether there may be more.
-fn run(area: &mut [u8]) -> bool {
+fn run(input: &mut impl Read, out: &mut impl Write, area: &mut [u8]) -> io::Result<bool> {
     let mut command = [0u8; 32];
-    if !tape::next(&mut command) {
-        return false;
+    if !tape::next(input, &mut command)? {
+        return Ok(false);
     }
     let operation = command[0];
     if operation == 0 {
-        tape::label(&command);
+        tape::label(out, &command)?;
     } else if operation == 1 {
         tape::put(area, &command);
     } else {
-        let n = io::count(tape::number32(&command, 12) as isize, area);
-        call(&area[..n], &command);
+        let n = tape::lent(tape::number32(&command, 12), area);
+        call(out, &area[..n], &command)?;
     }
-    true
+    Ok(true)
 }
 
-// Nothing says that the input ends, so the loop counts its turns down from more than are stored.
-fn run_all(area: &mut [u8]) {
-    let mut turns: u32 = 1000000;
-    while turns > 0 && run(area) {
-        turns -= 1;
+// Nothing says that the input ends, so the loop counts its turns, of which there are more than any input has commands.
+fn run_all(input: &mut impl Read, out: &mut impl Write, area: &mut [u8]) -> io::Result<()> {
+    for _ in 0..u64::MAX {
+        if !run(input, out, area)? {
+            break;
+        }
     }
+    Ok(())
 }
 
-fn main() {
+fn main(rt: HostRuntime) -> io::Result<()> {
+    let mut input = BufReader::new(rt.alloc(), rt.stdin())?;
+    let mut out = BufWriter::new(rt.alloc(), rt.stdout())?;
     let mut area = [0u8; AREA];
-    run_all(&mut area);
+    run_all(&mut input, &mut out, &mut area)?;
+    out.flush()
 }

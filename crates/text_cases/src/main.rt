@@ -2,45 +2,52 @@
 // 1 changes the input, and 2 prints.
 #![tactic(auto)]
 
+use std::io;
+use std::io::{BufReader, BufWriter, Read, Write};
 
 // Longer than what is ever lent, so that yards of more than 32 sheets are tried too.
 const INPUT: usize = 34304;
 
-// Prints the text for as many bytes of the input as the command says.
-fn call(command: &[u8; 32], input: &[u8]) {
-    let n = io::count(tape::number32(command, 4) as isize, input);
+// Prints the text for as many bytes of the area as the command says.
+fn call(out: &mut impl Write, command: &[u8; 32], area: &[u8]) -> io::Result<()> {
+    let n = tape::lent(tape::number32(command, 4), area);
     let mut printed = [0u8; text::TEXT_SIZE];
-    let m = text::text_of(&input[..n], &mut printed);
-    tape::end();
-    tape::text(&printed[..m]);
+    let m = text::text_of(&area[..n], &mut printed);
+    tape::end(out)?;
+    tape::text(out, &printed[..m])
 }
 
 // Runs the next command, and answers whether there may be more.
-fn run(input: &mut [u8]) -> bool {
+fn run(input: &mut impl Read, out: &mut impl Write, area: &mut [u8]) -> io::Result<bool> {
     let mut command = [0u8; 32];
-    if !tape::next(&mut command) {
-        return false;
+    if !tape::next(input, &mut command)? {
+        return Ok(false);
     }
     let operation = command[0];
     if operation == 0 {
-        tape::label(&command);
+        tape::label(out, &command)?;
     } else if operation == 1 {
-        tape::put(input, &command);
+        tape::put(area, &command);
     } else {
-        call(&command, input);
+        call(out, &command, area)?;
     }
-    true
+    Ok(true)
 }
 
-// Nothing says that the input ends, so the loop counts its turns down from more than are stored.
-fn run_all(input: &mut [u8]) {
-    let mut turns: u32 = 1000000;
-    while turns > 0 && run(input) {
-        turns -= 1;
+// Nothing says that the input ends, so the loop counts its turns, of which there are more than any input has commands.
+fn run_all(input: &mut impl Read, out: &mut impl Write, area: &mut [u8]) -> io::Result<()> {
+    for _ in 0..u64::MAX {
+        if !run(input, out, area)? {
+            break;
+        }
     }
+    Ok(())
 }
 
-fn main() {
-    let mut input = [0u8; INPUT];
-    run_all(&mut input);
+fn main(rt: HostRuntime) -> io::Result<()> {
+    let mut input = BufReader::new(rt.alloc(), rt.stdin())?;
+    let mut out = BufWriter::new(rt.alloc(), rt.stdout())?;
+    let mut area = [0u8; INPUT];
+    run_all(&mut input, &mut out, &mut area)?;
+    out.flush()
 }

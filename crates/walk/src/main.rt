@@ -1,10 +1,29 @@
 // Walks a trace over a yard: reads where a Query arrives, the Query and the yard, and prints the walk's end and a line for each block.
 #![tactic(auto)]
 
-fn main() {
+use std::io;
+use std::io::Read;
+
+// Fills the buffer from standard input, and answers how many bytes there were.
+fn read_input(input: &mut impl Read, buffer: &mut [u8]) -> io::Result<usize> {
+    let mut n = 0;
+    for _ in 0..u64::MAX {
+        if n >= buffer.len() {
+            break;
+        }
+        let got = input.read(&mut buffer[n..])?;
+        if got == 0 {
+            break;
+        }
+        n += got;
+    }
+    Ok(n)
+}
+
+fn main(rt: HostRuntime) -> io::Result<()> {
     let mut input = input::blank();
-    let n = io::read_full(0, &mut input);
+    let n = read_input(&mut rt.stdin(), &mut input)?;
     let mut printed = [0u8; text::TEXT_SIZE];
     let m = text::text_of(&input[..n], &mut printed);
-    io::write_all(1, &printed[..m]);
+    Print::write_all(&rt, &printed[..m])
 }

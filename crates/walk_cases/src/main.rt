@@ -3,6 +3,8 @@
 // router's time, and 5 walks.
 #![tactic(auto)]
 
+use std::io;
+use std::io::{BufReader, BufWriter, Read, Write};
 use yard::Walked;
 
 // Areas longer than what is lent from them, so that their tails are seen to stay. The yard's has
@@ -13,14 +15,14 @@ const MESSAGE: usize = 1600;
 
 const OUTPUT: usize = 1600;
 
-fn print(w: Walked, output: &[u8]) {
-    tape::text(b" ->");
-    tape::then(w.end as u64);
-    tape::then(w.steps as u64);
-    tape::then(w.blocks as u64);
-    tape::then(w.length as u64);
-    tape::then(tape::digest(output));
-    tape::end();
+fn print(out: &mut impl Write, w: Walked, output: &[u8]) -> io::Result<()> {
+    tape::text(out, b" ->")?;
+    tape::then(out, w.end as u64)?;
+    tape::then(out, w.steps as u64)?;
+    tape::then(out, w.blocks as u64)?;
+    tape::then(out, w.length as u64)?;
+    tape::then(out, tape::digest(output))?;
+    tape::end(out)
 }
 
 // Walks with the first bytes of the areas, as many as the command says.
@@ -35,9 +37,9 @@ fn walk(
     let receiving = tape::number32(command, 16);
     let destination = tape::number32(command, 20);
     let ttl = tape::number32(command, 24);
-    let y = io::count(tape::number32(command, 4) as isize, yard);
-    let m = io::count(tape::number16(command, 8) as isize, message);
-    let o = io::count(tape::number16(command, 10) as isize, output);
+    let y = tape::lent(tape::number32(command, 4), yard);
+    let m = tape::lent(tape::number16(command, 8) as u32, message);
+    let o = tape::lent(tape::number16(command, 10) as u32, output);
     yard::walk(
         &yard[..y],
         times,
@@ -52,36 +54,40 @@ fn walk(
 
 // Walks, and writes the answer and a digest of the output's area.
 fn call(
+    out: &mut impl Write,
     command: &[u8; 32],
     yard: &[u8],
     times: &[u32],
     message: &[u8],
     output: &mut [u8],
     ends: &mut [u64; 256],
-) {
+) -> io::Result<()> {
     let t = tape::number16(command, 2) as usize;
     if t <= times.len() {
         let w = walk(command, yard, &times[..t], message, output);
         tape::count(ends, w.end);
-        print(w, output);
+        print(out, w, output)?;
     }
+    Ok(())
 }
 
 // Runs the next command, and answers whether there may be more.
 fn run(
+    input: &mut impl Read,
+    out: &mut impl Write,
     yard: &mut [u8],
     times: &mut [u32],
     message: &mut [u8],
     output: &mut [u8],
     ends: &mut [u64; 256],
-) -> bool {
+) -> io::Result<bool> {
     let mut command = [0u8; 32];
-    if !tape::next(&mut command) {
-        return false;
+    if !tape::next(input, &mut command)? {
+        return Ok(false);
     }
     let operation = command[0];
     if operation == 0 {
-        tape::label(&command);
+        tape::label(out, &command)?;
     } else if operation == 1 {
         tape::put(yard, &command);
     } else if operation == 2 {
@@ -91,31 +97,46 @@ fn run(
     } else if operation == 4 {
         tape::set_time(times, &command);
     } else {
-        call(&command, yard, times, message, output, ends);
+        call(out, &command, yard, times, message, output, ends)?;
     }
-    true
+    Ok(true)
 }
 
-// Nothing says that the input ends, so the loop counts its turns down from more than are stored.
+// Nothing says that the input ends, so the loop counts its turns, of which there are more than any input has commands.
 fn run_all(
+    input: &mut impl Read,
+    out: &mut impl Write,
     yard: &mut [u8],
     times: &mut [u32],
     message: &mut [u8],
     output: &mut [u8],
     ends: &mut [u64; 256],
-) {
-    let mut turns: u32 = 1000000;
-    while turns > 0 && run(yard, times, message, output, ends) {
-        turns -= 1;
+) -> io::Result<()> {
+    for _ in 0..u64::MAX {
+        if !run(input, out, yard, times, message, output, ends)? {
+            break;
+        }
     }
+    Ok(())
 }
 
-fn main() {
+fn main(rt: HostRuntime) -> io::Result<()> {
+    let mut input = BufReader::new(rt.alloc(), rt.stdin())?;
+    let mut out = BufWriter::new(rt.alloc(), rt.stdout())?;
     let mut yard = [0u8; YARD];
     let mut times = [0u32; 40];
     let mut message = [0u8; MESSAGE];
     let mut output = [0u8; OUTPUT];
     let mut ends = [0u64; 256];
-    run_all(&mut yard, &mut times, &mut message, &mut output, &mut ends);
-    tape::print_table(b"end", &ends);
+    run_all(
+        &mut input,
+        &mut out,
+        &mut yard,
+        &mut times,
+        &mut message,
+        &mut output,
+        &mut ends,
+    )?;
+    tape::print_table(&mut out, b"end", &ends)?;
+    out.flush()
 }
