@@ -1,5 +1,4 @@
-// What a host written in C or Rust calls. Numbers pass as themselves, a slice as a pointer and a length; no entry asks anything of
-// its caller but that what is written overlaps nothing else.
+// What a host calls, as functions of a library. None asks anything of its caller. Crate `servicebough_c` exports each to C under its name.
 #![tactic(auto)]
 
 ghost use Rattle.std.specs.Prelude.{◌≡◌, ◌≤◌, length};
@@ -24,16 +23,14 @@ use yard::Walked;
 const ANSWER_SIZE: usize = 16;
 
 // Starts a clock.
-#[unsafe(no_mangle)]
-pub extern "C" fn bough_clock_start(reading: u64, out: &mut [u8]) -> u32
+pub fn bough_clock_start(reading: u64, out: &mut [u8]) -> u32
     ensures { TickMeets (start_of reading) out.old result out.new }
 {
     ticks::hand_over(Clock::start(reading), out)
 }
 
 // Advances the clock (r, y).
-#[unsafe(no_mangle)]
-pub extern "C" fn bough_clock_advance(r: u64, y: u64, reading: u64, out: &mut [u8]) -> u32
+pub fn bough_clock_advance(r: u64, y: u64, reading: u64, out: &mut [u8]) -> u32
     ensures { TickMeets (advance_of (clock_of r y) reading) out.old result out.new }
 {
     let c = Clock { r, y };
@@ -41,8 +38,7 @@ pub extern "C" fn bough_clock_advance(r: u64, y: u64, reading: u64, out: &mut [u
 }
 
 // UNIX time to units; 0 where it is refused.
-#[unsafe(no_mangle)]
-pub extern "C" fn bough_clock_unix(seconds: u64, nanoseconds: u64) -> u64
+pub fn bough_clock_unix(seconds: u64, nanoseconds: u64) -> u64
     ensures { result ≡ (unix_of seconds nanoseconds).units }
 {
     let u = unix::unix(seconds, nanoseconds);
@@ -50,16 +46,14 @@ pub extern "C" fn bough_clock_unix(seconds: u64, nanoseconds: u64) -> u64
 }
 
 // The Query Arrival Time of a time issued.
-#[unsafe(no_mangle)]
-pub extern "C" fn bough_clock_arrival(y: u64) -> u32
+pub fn bough_clock_arrival(y: u64) -> u32
     ensures { result ≡ arrival_of y }
 {
     clock::arrival(y)
 }
 
 // One router's step.
-#[unsafe(no_mangle)]
-pub extern "C" fn bough_engine_step(
+pub fn bough_engine_step(
     message: &[u8],
     destination: u32,
     receiving: u32,
@@ -101,8 +95,7 @@ fn write_answer(w: Walked, answer: &mut [u8])
 }
 
 // A Query walked through a yard.
-#[unsafe(no_mangle)]
-pub extern "C" fn bough_walk(
+pub fn bough_walk(
     yard: &[u8],
     times: &[u32],
     message: &[u8],
@@ -135,32 +128,28 @@ pub extern "C" fn bough_walk(
 }
 
 // A Reply checked.
-#[unsafe(no_mangle)]
-pub extern "C" fn bough_reply_check(reply: &[u8]) -> u32
+pub fn bough_reply_check(reply: &[u8]) -> u32
     ensures { result ≡ first_of (reply_rows reply.now) }
 {
     reply::check(reply)
 }
 
 // The next block of a Reply at or after a place.
-#[unsafe(no_mangle)]
-pub extern "C" fn bough_reply_next(reply: &[u8], place: u32, block: &mut [u8]) -> u32
+pub fn bough_reply_next(reply: &[u8], place: u32, block: &mut [u8]) -> u32
     ensures { copied result block.new ≡ copied_next reply.now place block.old }
 {
     reply::copy_next(reply, place as usize, block)
 }
 
 // The loss between two Replies.
-#[unsafe(no_mangle)]
-pub extern "C" fn bough_reply_loss(first: &[u8], second: &[u8], links: &mut [u8]) -> u32
+pub fn bough_reply_loss(first: &[u8], second: &[u8], links: &mut [u8]) -> u32
     ensures { written result links.new ≡ loss_of first.now second.now links.old }
 {
     loss::loss(first, second, links)
 }
 
 // The time between two arrivals.
-#[unsafe(no_mangle)]
-pub extern "C" fn bough_arrival_difference(later: u32, earlier: u32) -> i32
+pub fn bough_arrival_difference(later: u32, earlier: u32) -> i32
     ensures { result ≡ difference_of later earlier }
 {
     arrivals::difference(later, earlier)
