@@ -2,6 +2,7 @@
 #   make            the archive, proved first
 #   make install PREFIX=DIR
 #   make examples   the programs of examples/, against include/ and the archive
+#   make NAME       the program crates/NAME, walk or one that runs cases: proved, built, and run on its input; ./run NAME runs it on other input
 #   make test       installs into a folder of its own, compiles against that, and traces through namespaces (root)
 # The archive is x86-64, and so is all that links it. On Arm Debian's cross compiler links it, and ./run runs it.
 PREFIX ?= /usr/local
@@ -26,15 +27,24 @@ endif
 lib = target/staticlib/libservicebough.a
 bin = target/examples
 programs = $(bin)/host $(bin)/trace $(bin)/sheet
+proved = $(patsubst crates/%/src/main.rt,%,$(wildcard crates/*/src/main.rt))
 compile = $(CC) $(WARN) $(CFLAGS) $(LDFLAGS)
 
-.PHONY: all lib install examples test compiler compile-line
+.PHONY: all lib install examples test compiler compile-line $(proved)
 all: lib
 lib: $(lib)
 
-$(lib): crates.txt $(shell find crates -name '*.rt' -o -name '*.antt')
+# The archive is that of the crate servicebough_c; what C links keeps its name.
+$(lib): crates.txt $(shell find crates -name out -prune -o \( -name '*.rt' -o -name '*.antt' \) -print)
 	$(if $(shell command -v rt 2> /dev/null),,$(error rt is missing: the Rattle kit has it))
-	rt staticlib servicebough
+	cd crates/servicebough_c && rt lib
+	@mkdir -p $(@D)
+	cp crates/servicebough_c/out/libservicebough_c.a $@
+
+# `rt run` leaves the program as crates/NAME/out/NAME.
+$(proved):
+	$(if $(shell command -v rt 2> /dev/null),,$(error rt is missing: the Rattle kit has it))
+	cd crates/$@ && rt run < stdin | cmp - stdout
 
 install: $(lib)
 	install -d $(DESTDIR)$(prefix)/lib/pkgconfig $(DESTDIR)$(prefix)/include

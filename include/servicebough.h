@@ -2,7 +2,7 @@
  * client written in C calls.
  *
  * The library does no input and no output, keeps no state, takes no memory but stack, and calls nothing
- * but C's memset: the host receives and sends UDP datagrams, and lends the library its bytes for the length
+ * but C's memset and memcpy: the host receives and sends UDP datagrams, and lends the library its bytes for the length
  * of one call. The archive is x86-64.
  * Every entry may be called from several threads at once, on different bytes.
  *

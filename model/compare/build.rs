@@ -1,4 +1,4 @@
-//! Tells where `rt staticlib servicebough` puts the archive, which is x86-64.
+//! Tells where `make lib` puts the archive, which is x86-64.
 
 use std::{env, path::Path};
 
