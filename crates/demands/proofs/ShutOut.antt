@@ -15,7 +15,7 @@ use Rattle.clock.specs.declared.Clock.{Clock}
 use Rattle.clock.specs.declared.Tick.{Tick}
 use Rattle.clock.specs.Clock.{last_time, clock_of, issued}
 use Rattle.clock.specs.Readings.{all_issues_by, times, Sound, lead}
-use Rattle.header.specs.Format.{most, code_offset}
+use Rattle.header.specs.Format.{code_offset}
 use Rattle.message.specs.Blocks.{standard_blocks}
 use Rattle.message.specs.Room.{HasRoom}
 use Rattle.drops.specs.Drop.{drop_sheet, last_drop}

@@ -1,5 +1,4 @@
 -- The demands on a walk are met by something: P1's trace, which is computed.
-use Prim.Native.Nat.{◌-◌}
 use mathlib.Core.Path.{refl}
 use Rattle.rows.specs.Rows.{NoneApplies}
 use Rattle.rows.proofs.Laws.{zero_none}

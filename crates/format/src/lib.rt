@@ -1,7 +1,6 @@
 // The sizes of a format as one value, which code takes by value and definitions take as a parameter; and the value for IPv4.
 #![tactic(auto)]
 
-
 // What a message, its blocks and the entries of a sheet measure.
 #[derive(Clone, Copy)]
 pub struct Format {

@@ -1,5 +1,5 @@
 -- The rules on an interface: a law for each way out of the test.
-use Prim.Native.Nat.{ℕ, zero}
+use Prim.Native.Nat.{ℕ}
 use mathlib.Core.Bool.{Bool, true, false, not, ◌&&◌}
 use mathlib.Core.Path.{◌≡◌}
 use lib.Dec.{leb, eqb}

@@ -1,7 +1,6 @@
 -- A route: an entry of a route block, with 56 bytes of fields.
 use Rattle.std.specs.Prelude.{ℕ, ◌+◌, ◌/◌, ◌%◌, ◌^◌, Bool, List, eqb}
 use Rattle.wire.specs.Numbers.{byte_at, be16, be32, be64}
-use Rattle.address.specs.Addresses.{multicast}
 use Rattle.route_entry.specs.declared.Route.{Route}
 
 -- the route whose entry begins at a place

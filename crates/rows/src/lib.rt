@@ -1,3 +1,2 @@
 // Tables as lists of rows: definitions and laws, no code.
 #![tactic(auto)]
-

@@ -1,6 +1,5 @@
 -- `difference`: forth by less than half of the times, else back.
 use Rattle.arrivals.proofs.Laws.{is_apart, goes_forth, back_fits, goes_back}
-use Rattle.std.proofs.Common.{rules}
 use Rattle.arrivals.proofs.difference.Goals as goal
 
 pub returns-then-apart-lt-HALF_TIMES : goal.returns-then-apart-lt-HALF_TIMES

@@ -1,6 +1,5 @@
 -- `add`: one of the two additions at most carries.
 use Rattle.block.proofs.Alike.{added}
-use Rattle.std.proofs.Common.{rules}
 use Rattle.block.proofs.add.Goals as goal
 
 pub returns : goal.returns

@@ -1,5 +1,5 @@
 -- `add_sixteen`: two words more at each call.
-use Rattle.std.proofs.Common.{arith, rules}
+use Rattle.std.proofs.Common.{arith}
 use Rattle.block.proofs.Alike.{summed_to}
 use Rattle.block.proofs.add_sixteen.Goals as goal
 

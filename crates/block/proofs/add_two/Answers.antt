@@ -1,6 +1,5 @@
 -- `add_two`: both words as one.
 use Rattle.block.proofs.Alike.{two_more}
-use Rattle.std.proofs.Common.{rules}
 use Rattle.block.proofs.add_two.Goals as goal
 
 pub returns : goal.returns

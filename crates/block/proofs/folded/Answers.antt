@@ -1,5 +1,5 @@
 -- `folded`: what stands above 32 bits counts once.
-use Rattle.std.proofs.Common.{refl, rules}
+use Rattle.std.proofs.Common.{refl}
 use Rattle.block.proofs.Alike.{folded_long}
 use Rattle.block.proofs.folded.Goals as goal
 

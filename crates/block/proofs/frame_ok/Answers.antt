@@ -1,5 +1,5 @@
 -- `frame_ok`: left at the first test that fails.
-use Rattle.std.proofs.Common.{ℕ, ◌<◌, rules}
+use Rattle.std.proofs.Common.{ℕ, ◌<◌}
 use Rattle.wire.specs.Numbers.{byte_at}
 use Rattle.block.proofs.Frames.{wrong_head, in_use_fit, wrong_rest, framed_full, framed_partly}
 use Rattle.block.proofs.frame_ok.Goals as goal

@@ -1,5 +1,5 @@
 -- `sum_block`: sixteen words more at each call.
-use Rattle.std.proofs.Common.{refl, arith, rules}
+use Rattle.std.proofs.Common.{refl, arith}
 use Rattle.block.proofs.Alike.{alike_on, none_summed}
 use Rattle.block.proofs.sum_block.Goals as goal
 

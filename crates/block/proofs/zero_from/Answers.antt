@@ -1,8 +1,6 @@
 -- `zero_from`: what was seen so far and what is left say together what is asked.
-use Rattle.std.proofs.Common.{◌≡◌, ◌-◌, ◌≤◌, ◌&&◌, eqb, refl, arith}
-use Rattle.block.specs.Inside.{switches_word, zero_from}
+use Rattle.std.proofs.Common.{refl, arith}
 use Rattle.block.proofs.Unused.{zeros_more, zeros_all}
-use borrow.Author.Rules.{rules}
 use Rattle.block.proofs.zero_from.Goals as goal
 
 pub loop-i-init : goal.loop-i-init

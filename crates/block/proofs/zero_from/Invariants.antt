@@ -1,7 +1,6 @@
 -- `zero_from`: what was seen so far and what is left say together what is asked.
-use Rattle.std.proofs.Common.{◌≡◌, ◌-◌, ◌≤◌, ◌&&◌, eqb, refl, arith}
+use Rattle.std.proofs.Common.{◌≡◌, ◌-◌, ◌≤◌, ◌&&◌, eqb}
 use Rattle.block.specs.Inside.{switches_word, zero_from}
-use Rattle.block.proofs.Unused.{zeros_more, zeros_all}
 use Rattle.block.proofs.zero_from.Given as goal
 
 abbrev pub invariant-loop-i : goal.invariant-loop-i

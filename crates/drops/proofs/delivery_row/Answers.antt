@@ -3,7 +3,6 @@ use Rattle.rows.specs.Rows.{by_first}
 use Rattle.rows.proofs.Laws.{first}
 use Rattle.drops.specs.Drop.{delivery_rows}
 use Rattle.drops.proofs.Rows.{interfaces_told}
-use borrow.Author.Rules.{rules}
 use Rattle.drops.proofs.delivery_row.Goals as goal
 
 pub is_delivered-requires : goal.is_delivered-requires

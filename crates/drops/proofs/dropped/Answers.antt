@@ -1,6 +1,5 @@
 -- `dropped`: the definition's record.
 use Rattle.drops.specs.Inside.{drop_verdict}
-use borrow.Author.Rules.{rules}
 use Rattle.drops.proofs.dropped.Goals as goal
 
 pub returns : goal.returns

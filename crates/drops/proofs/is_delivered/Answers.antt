@@ -1,6 +1,5 @@
 -- `is_delivered`: the tests of the definition, with the callees' answers.
 
-use borrow.Author.Rules.{rules}
 use Rattle.drops.proofs.is_delivered.Goals as goal
 
 pub returns : goal.returns

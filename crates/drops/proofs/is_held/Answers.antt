@@ -1,6 +1,5 @@
 -- `is_held`: by what was found.
 use Rattle.drops.proofs.Rows.{held_at, held_not}
-use borrow.Author.Rules.{rules}
 use Rattle.drops.proofs.is_held.Goals as goal
 
 pub returns-in-At : goal.returns-in-At

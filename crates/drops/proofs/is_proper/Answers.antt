@@ -1,6 +1,5 @@
 -- `is_proper`: a Query is asked for, anything else is not.
 use Rattle.drops.proofs.Rows.{seen_no_query, seen-query}
-use borrow.Author.Rules.{rules}
 use Rattle.drops.proofs.is_proper.Goals as goal
 
 pub returns-then-h-eq-QUERY : goal.returns-then-h-eq-QUERY

@@ -1,6 +1,5 @@
 -- `is_seen`: a Query is looked for, anything else is not.
 use Rattle.drops.proofs.Rows.{seen_no_query, seen-query}
-use borrow.Author.Rules.{rules}
 use Rattle.drops.proofs.is_seen.Goals as goal
 
 pub returns-then-h-ne-QUERY : goal.returns-then-h-ne-QUERY

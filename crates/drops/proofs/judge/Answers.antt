@@ -1,6 +1,5 @@
 -- `judge`: all rows from 3 on, one group behind the other.
 use Rattle.drops.proofs.Rows.{judged_sheet, judged_message, judged_routed}
-use borrow.Author.Rules.{rules}
 use Rattle.drops.proofs.judge.Goals as goal
 
 pub returns-then-number-ne0 : goal.returns-then-number-ne0

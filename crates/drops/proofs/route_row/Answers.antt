@@ -1,6 +1,5 @@
 -- `route_row`: each way out is the first row that applies.
 use Rattle.drops.proofs.Rows.{row_18, row_none}
-use borrow.Author.Rules.{rules}
 use Rattle.drops.proofs.route_row.Goals as goal
 
 pub returns-then-h-link_scoped : goal.returns-then-h-link_scoped

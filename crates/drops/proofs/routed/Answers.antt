@@ -1,6 +1,5 @@
 -- `routed`: rows 14 to 18, one group behind the other.
 use Rattle.drops.proofs.Rows.{routed-dropped, routed_late, routed_taken}
-use borrow.Author.Rules.{rules}
 use Rattle.drops.proofs.routed.Goals as goal
 
 pub returns-then-number-ne0 : goal.returns-then-number-ne0

@@ -2,7 +2,6 @@
 use Rattle.rows.specs.Rows.{by_first}
 use Rattle.rows.proofs.Laws.{first}
 use Rattle.drops.specs.Drop.{lending_rows}
-use borrow.Author.Rules.{rules}
 use Rattle.drops.proofs.sheet_row.Goals as goal
 
 pub returns-then-not-layout : goal.returns-then-not-layout

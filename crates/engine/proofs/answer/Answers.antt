@@ -1,6 +1,5 @@
 -- `answer`: with room or without, what is written is the outcome.
 use Rattle.engine.proofs.Steps.{full_ready, answered_full, roomy_ready, answered-longer}
-use borrow.Author.Rules.{rules}
 use Rattle.engine.proofs.answer.Goals as goal
 
 pub send_full-requires : goal.send_full-requires

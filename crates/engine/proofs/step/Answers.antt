@@ -1,7 +1,6 @@
 -- `step`: rows 1 and 2, then the others.
 use Rattle.engine.proofs.Steps.{step-refused}
 use Rattle.format.specs.Sizes.{ipv4_sound}
-use borrow.Author.Rules.{rules}
 use Rattle.engine.proofs.step.Goals as goal
 
 pub returns-then-number-ne0 : goal.returns-then-number-ne0

@@ -1,6 +1,5 @@
 -- `step_by`: the verdict's number, or the answer to what it found.
 use Rattle.engine.proofs.Steps.{lent_list, step-dropped, lent_ready, step-answered}
-use borrow.Author.Rules.{rules}
 use Rattle.engine.proofs.step_by.Goals as goal
 
 pub judge-v-requires : goal.judge-v-requires

@@ -1,6 +1,5 @@
 -- `write_recent`: a Query is entered, anything else is not.
 use Rattle.engine.proofs.Entering.{query-entered, request_kept}
-use borrow.Author.Rules.{rules}
 use Rattle.engine.proofs.write_recent.Goals as goal
 
 pub returns-then-h-eq-QUERY : goal.returns-then-h-eq-QUERY

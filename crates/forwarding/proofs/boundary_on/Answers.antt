@@ -1,6 +1,5 @@
 -- `boundary_on`: the incoming interface's own test, by cases.
 
-use borrow.Author.Rules.{rules}
 use Rattle.forwarding.proofs.boundary_on.Goals as goal
 
 pub returns-in-Known : goal.returns-in-Known

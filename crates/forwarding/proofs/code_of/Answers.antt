@@ -1,6 +1,5 @@
 -- `code_of`: by the route chosen, as the definition goes.
 use Rattle.forwarding.proofs.Rows.{code_found, code_none_wrong, code_none}
-use borrow.Author.Rules.{rules}
 use Rattle.forwarding.proofs.code_of.Goals as goal
 
 pub returns-then-v : goal.returns-then-v

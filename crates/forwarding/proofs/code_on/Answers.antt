@@ -2,7 +2,6 @@
 use Rattle.rows.specs.Rows.{by_first}
 use Rattle.rows.proofs.Laws.{first}
 use Rattle.forwarding.proofs.Rows.{late_told}
-use borrow.Author.Rules.{rules}
 use Rattle.forwarding.proofs.code_on.Goals as goal
 
 pub returns-then-v : goal.returns-then-v

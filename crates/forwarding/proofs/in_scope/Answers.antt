@@ -1,6 +1,5 @@
 -- `in_scope`: the tests of the definition, with the callees' answers.
 
-use borrow.Author.Rules.{rules}
 use Rattle.forwarding.proofs.in_scope.Goals as goal
 
 pub returns : goal.returns

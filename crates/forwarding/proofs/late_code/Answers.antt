@@ -1,7 +1,6 @@
 -- `late_code`: each way out is the first row that applies.
 use Rattle.rows.specs.Rows.{by_first}
 use Rattle.rows.proofs.Laws.{first}
-use borrow.Author.Rules.{rules}
 use Rattle.forwarding.proofs.late_code.Goals as goal
 
 pub returns-then-scoped : goal.returns-then-scoped

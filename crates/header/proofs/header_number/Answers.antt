@@ -1,7 +1,6 @@
 -- `header_number`: each row is handed what the rows after it give, and the nested rows are the chain of the definition.
 use Rattle.rows.specs.Rows.{by_first}
 use Rattle.header.specs.Rows.{header_rows}
-use borrow.Author.Rules.{rules}
 use Rattle.header.proofs.header_number.Goals as goal
 
 pub returns : goal.returns

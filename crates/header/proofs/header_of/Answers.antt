@@ -1,6 +1,5 @@
 -- `header_of`: each field is the number that was read.
 use Rattle.header.specs.Header.{header_of}
-use borrow.Author.Rules.{rules}
 use Rattle.header.proofs.header_of.Goals as goal
 
 pub returns : goal.returns

@@ -2,7 +2,6 @@
 use mathlib.Core.Path.{sym}
 use lib.Seq.{length-take-le}
 use Rattle.input.proofs.Given.{head_there, head_fits}
-use borrow.Author.Rules.{rules}
 use Rattle.input.proofs.head_of.Goals as goal
 
 pub slice_bounds-copy_to-end-2 : goal.slice_bounds-copy_to-end-2

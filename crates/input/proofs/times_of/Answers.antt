@@ -1,11 +1,9 @@
 -- `times_of`: so many of the times are set as routers were passed.
-use Prim.Native.Nat.{◌≤◌, ◌-◌}
-use mathlib.Core.Path.{◌≡◌, refl}
+use mathlib.Core.Path.{refl}
 use native.Mathlib.Omega.{arith}
-use lib.ListN.{length, take, length-set}
+use lib.ListN.{length-set}
 use Rattle.input.specs.Input.{times_of}
 use Rattle.input.proofs.Given.{time_set, times-set}
-use borrow.Author.Rules.{rules}
 use Rattle.input.proofs.times_of.Goals as goal
 
 pub loop-i-init : goal.loop-i-init

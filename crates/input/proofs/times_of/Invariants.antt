@@ -1,10 +1,8 @@
 -- `times_of`: so many of the times are set as routers were passed.
 use Prim.Native.Nat.{◌≤◌, ◌-◌}
-use mathlib.Core.Path.{◌≡◌, refl}
-use native.Mathlib.Omega.{arith}
-use lib.ListN.{length, take, length-set}
+use mathlib.Core.Path.{◌≡◌}
+use lib.ListN.{length, take}
 use Rattle.input.specs.Input.{times_of}
-use Rattle.input.proofs.Given.{time_set, times-set}
 use Rattle.input.proofs.times_of.Given as goal
 
 abbrev pub invariant-loop-i : goal.invariant-loop-i

@@ -1,6 +1,5 @@
 -- `walk`: what is read of the input is what it holds.
 use Rattle.input.proofs.Given.{walk_asked}
-use borrow.Author.Rules.{rules}
 use Rattle.input.proofs.walk.Goals as goal
 
 pub returns : goal.returns

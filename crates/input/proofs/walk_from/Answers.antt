@@ -1,6 +1,5 @@
 -- `walk_from`: the numbers are read from their places.
 use Rattle.input.proofs.Given.{walk_from}
-use borrow.Author.Rules.{rules}
 use Rattle.input.proofs.walk_from.Goals as goal
 
 pub returns : goal.returns

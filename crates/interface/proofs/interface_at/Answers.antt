@@ -1,6 +1,5 @@
 -- `interface_at`: each field by its reader.
 use Rattle.interface.specs.Interface.{interface_at}
-use borrow.Author.Rules.{rules}
 use Rattle.interface.proofs.interface_at.Goals as goal
 
 pub returns : goal.returns

@@ -1,7 +1,6 @@
 -- `interface_ok`: the address first; then the tests that are left.
 use Rattle.interface.specs.Interface.{interface_at}
 use Rattle.interface.proofs.Rules.{not_unicast, as_others}
-use borrow.Author.Rules.{rules}
 use Rattle.interface.proofs.interface_ok.Goals as goal
 
 pub returns-then-not-unicast : goal.returns-then-not-unicast

@@ -1,6 +1,5 @@
 -- `last_hop`: by the route chosen, as the definition goes.
 use Rattle.last_hop.proofs.Reached.{hop_rp, hop_reached, hop_none}
-use borrow.Author.Rules.{rules}
 use Rattle.last_hop.proofs.last_hop.Goals as goal
 
 pub returns-then-is_rp : goal.returns-then-is_rp

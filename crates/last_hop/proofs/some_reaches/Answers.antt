@@ -1,12 +1,8 @@
 -- `some_reaches`: none of the first k interfaces reaches the client.
-use Prim.Native.Nat.{◌-◌, ◌≤◌}
-use mathlib.Core.Bool.{false}
-use mathlib.Core.Path.{◌≡◌, refl}
+use mathlib.Core.Path.{refl}
 use native.Mathlib.Omega.{arith}
-use Rattle.tables.specs.Tables.{interface_of}
 use Rattle.last_hop.specs.LastHop.{some_reaches}
 use Rattle.last_hop.proofs.Reached.{bit_there, interface-counted, map_over, reached, not_reached, none_reached}
-use borrow.Author.Rules.{rules}
 use Rattle.last_hop.proofs.some_reaches.Goals as goal
 
 pub loop-k-init : goal.loop-k-init

@@ -1,11 +1,9 @@
 -- `some_reaches`: none of the first k interfaces reaches the client.
 use Prim.Native.Nat.{◌-◌, ◌≤◌}
 use mathlib.Core.Bool.{false}
-use mathlib.Core.Path.{◌≡◌, refl}
-use native.Mathlib.Omega.{arith}
+use mathlib.Core.Path.{◌≡◌}
 use Rattle.tables.specs.Tables.{interface_of}
 use Rattle.last_hop.specs.LastHop.{some_reaches}
-use Rattle.last_hop.proofs.Reached.{bit_there, interface-counted, map_over, reached, not_reached, none_reached}
 use Rattle.last_hop.proofs.some_reaches.Given as goal
 
 abbrev pub invariant-loop-k : goal.invariant-loop-k

@@ -1,6 +1,5 @@
 -- `link_of`: each way out is a name under those before it, or none.
 use Rattle.link.proofs.Naming.{name_first, name_second, sent_rises, received_rises, name_third, name_none}
-use borrow.Author.Rules.{rules}
 use Rattle.link.proofs.link_of.Goals as goal
 
 pub returns-then-not_counted : goal.returns-then-not_counted

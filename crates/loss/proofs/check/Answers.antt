@@ -1,6 +1,5 @@
 -- `check`: each way out is a row under the rows before it.
 use Rattle.loss.proofs.Rows.{asks_path, first_refused, second_refused, paths_same, paths_other}
-use borrow.Author.Rules.{rules}
 use Rattle.loss.proofs.check.Goals as goal
 
 pub returns-then-number-ne0 : goal.returns-then-number-ne0

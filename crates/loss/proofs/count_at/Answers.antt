@@ -1,6 +1,5 @@
 -- `count_at`: each count is read at its place.
 use Rattle.loss.proofs.Read.{count-read}
-use borrow.Author.Rules.{rules}
 use Rattle.loss.proofs.count_at.Goals as goal
 
 pub returns : goal.returns

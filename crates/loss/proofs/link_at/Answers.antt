@@ -1,6 +1,5 @@
 -- `link_at`: the link of the two counts.
 use Rattle.loss.specs.Inside.{link_in}
-use borrow.Author.Rules.{rules}
 use Rattle.loss.proofs.link_at.Goals as goal
 
 pub returns : goal.returns

@@ -1,9 +1,6 @@
 -- `same_path`: whether the two are over one path is told by the blocks from here on.
-use Prim.Native.Nat.{◌-◌}
 use native.Mathlib.Omega.{arith}
-use lib.ListN.{length}
-use Rattle.loss.proofs.Along.{Along, along_first, both_inside, one_behind, other_behind, along_parts, along_on, along_less, along_over}
-use borrow.Author.Rules.{rules}
+use Rattle.loss.proofs.Along.{along_first, both_inside, one_behind, other_behind, along_parts, along_on, along_less, along_over}
 use Rattle.loss.proofs.same_path.Goals as goal
 
 pub loop-at-init : goal.loop-at-init

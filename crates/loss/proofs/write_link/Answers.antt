@@ -1,7 +1,6 @@
 -- `write_link`: four numbers, one behind the other.
 use Rattle.wire.specs.Parts.{splice}
 use Rattle.loss.proofs.Bytes.{written_link}
-use borrow.Author.Rules.{rules}
 use Rattle.loss.proofs.write_link.Goals as goal
 
 pub returns : goal.returns

@@ -1,8 +1,7 @@
 -- `write_links`: the bytes at the end are those now, with the links from here on.
 use Prim.Native.Nat.{◌-◌}
-use native.Mathlib.Omega.{arith}
 use lib.ListN.{length}
-use Rattle.loss.proofs.Linking.{near_behind, near_inside, Between, between_first, ends_inside, one_behind, other_behind, link_inside, between_moves, between_on, between_over}
+use Rattle.loss.proofs.Linking.{Between}
 use Rattle.loss.proofs.write_links.Given as goal
 
 abbrev pub invariant-loop-far : goal.invariant-loop-far

@@ -6,7 +6,6 @@ use native.Mathlib.Omega.{arith}
 use Rattle.wire.specs.Numbers.{byte_at}
 use Rattle.memory.specs.Inside.{le32, octets}
 use Rattle.memory.proofs.Laws.{le32_is}
-use borrow.Author.Rules.{rules}
 use Rattle.memory.proofs.le32.Goals as goal
 
 weighed : (s : List ℕ) (at n : ℕ) → n ≡ (byte_at s at + byte_at s (at + 1) * 256) + (byte_at s (at + 2) * 65536 + byte_at s (at + 3) * 16777216) → n ≡ le32 s at

@@ -6,7 +6,6 @@ use native.Mathlib.Omega.{arith}
 use lib.Pow.{field, mod-mod-pow}
 use Rattle.wire.specs.Numbers.{bytes, bytes32}
 use Rattle.memory.specs.Inside.{le, le32}
-use borrow.Author.Rules.{rules}
 use Rattle.memory.proofs.swapped32.Goals as goal
 
 arranged : (a b c d e f g : ℕ) → e ≡ a → f ≡ b → g ≡ d → (a * 16777216 + b * 65536) + (c * 256 + d) ≡ (g + c * 256) + (f + e * 256) * 65536

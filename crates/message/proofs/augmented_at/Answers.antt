@@ -1,6 +1,5 @@
 -- `augmented_at`: too little is left, or type and length are those of type 5 or not.
 use Rattle.message.proofs.Heads.{augmented_cut, augmented-read, augmented_none}
-use borrow.Author.Rules.{rules}
 use Rattle.message.proofs.augmented_at.Goals as goal
 
 pub returns-then-left-lt-AUGMENTED_LEAST : goal.returns-then-left-lt-AUGMENTED_LEAST

@@ -1,6 +1,5 @@
 -- `block_at`: a block is of type 4, or of type 5, or there is none.
 use Rattle.message.proofs.Heads.{standard_there, none_there, augmented_there}
-use borrow.Author.Rules.{rules}
 use Rattle.message.proofs.block_at.Goals as goal
 
 pub returns-then-standard_at : goal.returns-then-standard_at

@@ -1,12 +1,7 @@
 -- `blocks_of`: what the whole message gives is what was found so far, joined with what the blocks from here on give.
 -- A block is not empty and lies within the message, so the place moves on and stays inside.
-use Prim.Native.Nat.{◌≤◌, ◌-◌}
-use mathlib.Core.Path.{◌≡◌}
 use native.Mathlib.Omega.{arith}
-use lib.ListN.{length, drop}
-use Rattle.message.specs.Blocks.{blocks_from}
-use Rattle.message.specs.Inside.{blocks_seen}
-use Rattle.message.proofs.Turns.{joined, at_first, stopped, standard_on, standard_inside, standard_moves, augmented_on, augmented_inside, augmented_moves}
+use Rattle.message.proofs.Turns.{at_first, stopped, standard_on, standard_inside, standard_moves, augmented_on, augmented_inside, augmented_moves}
 use borrow.Author.Rules.{rules}
 use Rattle.message.proofs.blocks_of.Goals as goal
 

@@ -2,11 +2,10 @@
 -- A block is not empty and lies within the message, so the place moves on and stays inside.
 use Prim.Native.Nat.{◌≤◌, ◌-◌}
 use mathlib.Core.Path.{◌≡◌}
-use native.Mathlib.Omega.{arith}
 use lib.ListN.{length, drop}
 use Rattle.message.specs.Blocks.{blocks_from}
 use Rattle.message.specs.Inside.{blocks_seen}
-use Rattle.message.proofs.Turns.{joined, at_first, stopped, standard_on, standard_inside, standard_moves, augmented_on, augmented_inside, augmented_moves}
+use Rattle.message.proofs.Turns.{joined}
 use Rattle.message.proofs.blocks_of.Given as goal
 
 abbrev pub invariant-loop-last : goal.invariant-loop-last

@@ -3,7 +3,6 @@ use Prim.Native.Nat.{◌+◌}
 use native.Mathlib.Omega.{arith}
 use Rattle.format.specs.Sizes.{ip_and_udp}
 use Rattle.message.proofs.Rows.{past_room}
-use borrow.Author.Rules.{rules}
 use Rattle.message.proofs.is_full.Goals as goal
 
 pub returns : goal.returns

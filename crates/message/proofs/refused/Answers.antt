@@ -1,7 +1,6 @@
 -- `refused`: zeros but for the number.
 use mathlib.Core.Path.{refl}
 use Rattle.message.specs.Inside.{refused_message}
-use borrow.Author.Rules.{rules}
 use Rattle.message.proofs.refused.Goals as goal
 
 pub returns : goal.returns

@@ -1,7 +1,6 @@
 -- `right_form`: the type of the first block is the first byte behind the header.
 use Rattle.message.proofs.Rows.{form_query, form_none, form_request}
 use Rattle.message.specs.Blocks.{standard_first}
-use borrow.Author.Rules.{rules}
 use Rattle.message.proofs.right_form.Goals as goal
 
 pub returns-then-s-eq-QUERY : goal.returns-then-s-eq-QUERY

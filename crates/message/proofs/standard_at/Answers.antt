@@ -1,6 +1,5 @@
 -- `standard_at`: too little is left, or type and length are those of type 4.
 use Rattle.message.proofs.Heads.{standard_cut, standard-read}
-use borrow.Author.Rules.{rules}
 use Rattle.message.proofs.standard_at.Goals as goal
 
 pub returns-then-s-at : goal.returns-then-s-at

@@ -2,7 +2,6 @@
 use borrow.Author.Tests.{ne_eqb}
 use Rattle.recent.specs.Layout.{well_formed}
 use Rattle.recent.proofs.Turns.{head_right, head_wrong}
-use borrow.Author.Rules.{rules}
 use Rattle.recent.proofs.check.Goals as goal
 
 pub returns-then-list-ne-LIST_SIZE : goal.returns-then-list-ne-LIST_SIZE

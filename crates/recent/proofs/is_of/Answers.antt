@@ -1,6 +1,5 @@
 -- `is_of`: the two numbers read are the entry's.
 
-use borrow.Author.Rules.{rules}
 use Rattle.recent.proofs.is_of.Goals as goal
 
 pub returns : goal.returns

@@ -1,9 +1,7 @@
 -- `seen`: while no entry from k on is of this client and id, the answer is that of the first k entries.
-use Prim.Native.Nat.{◌≤◌}
-use mathlib.Core.Path.{◌≡◌, refl}
+use mathlib.Core.Path.{refl}
 use native.Mathlib.Omega.{arith}
-use Rattle.recent.specs.Layout.{entry_count}
-use Rattle.recent.specs.Entries.{first_entries, some_is_of, seen_in}
+use Rattle.recent.specs.Entries.{seen_in}
 use Rattle.recent.proofs.Turns.{seen_found, seen_on, seen_none}
 use borrow.Author.Rules.{rules}
 use Rattle.recent.proofs.seen.Goals as goal

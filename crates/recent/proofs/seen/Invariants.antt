@@ -1,10 +1,8 @@
 -- `seen`: while no entry from k on is of this client and id, the answer is that of the first k entries.
 use Prim.Native.Nat.{◌≤◌}
-use mathlib.Core.Path.{◌≡◌, refl}
-use native.Mathlib.Omega.{arith}
+use mathlib.Core.Path.{◌≡◌}
 use Rattle.recent.specs.Layout.{entry_count}
 use Rattle.recent.specs.Entries.{first_entries, some_is_of, seen_in}
-use Rattle.recent.proofs.Turns.{seen_found, seen_on, seen_none}
 use Rattle.recent.proofs.seen.Given as goal
 
 abbrev pub invariant-loop-k : goal.invariant-loop-k

@@ -1,13 +1,6 @@
 -- `zero_from`: every byte is zero where no bit is set in those passed and those that are left are zero.
-use Prim.Native.Nat.{◌-◌}
-use mathlib.Core.Bool.{◌&&◌}
-use mathlib.Core.Path.{◌≡◌, refl}
-use native.Mathlib.Omega.{arith}
-use lib.Dec.{eqb}
-use lib.ListN.{length, drop}
-use Rattle.wire.specs.Parts.{all_zero}
+use mathlib.Core.Path.{refl}
 use Rattle.recent.proofs.Turns.{zero_on, zero_ended}
-use borrow.Author.Rules.{rules}
 use Rattle.recent.proofs.zero_from.Goals as goal
 
 pub loop-i-preserved : goal.loop-i-preserved

@@ -1,12 +1,10 @@
 -- `zero_from`: every byte is zero where no bit is set in those passed and those that are left are zero.
 use Prim.Native.Nat.{◌-◌}
 use mathlib.Core.Bool.{◌&&◌}
-use mathlib.Core.Path.{◌≡◌, refl}
-use native.Mathlib.Omega.{arith}
+use mathlib.Core.Path.{◌≡◌}
 use lib.Dec.{eqb}
 use lib.ListN.{length, drop}
 use Rattle.wire.specs.Parts.{all_zero}
-use Rattle.recent.proofs.Turns.{zero_on, zero_ended}
 use Rattle.recent.proofs.zero_from.Given as goal
 
 abbrev pub invariant-loop-i : goal.invariant-loop-i

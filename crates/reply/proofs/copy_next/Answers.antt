@@ -1,6 +1,5 @@
 -- `copy_next`: each way out under the tests before it.
 use Rattle.reply.proofs.Copying.{no_room, not_read, asks_place, no_place, none_left, behind_inside, under_64, under_32, copies}
-use borrow.Author.Rules.{rules}
 use Rattle.reply.proofs.copy_next.Goals as goal
 
 pub returns-then-block-lt-STANDARD_SIZE : goal.returns-then-block-lt-STANDARD_SIZE

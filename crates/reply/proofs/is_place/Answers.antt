@@ -1,9 +1,6 @@
 -- `is_place`: whether a block begins at the place is told by the blocks from here on, which go up to the end.
-use Prim.Native.Nat.{◌-◌}
 use native.Mathlib.Omega.{arith}
-use lib.ListN.{length}
-use Rattle.reply.proofs.Starts.{past_none, Come, come_first, come_inside, come_on, come_fits, come_moves, come_there}
-use borrow.Author.Rules.{rules}
+use Rattle.reply.proofs.Starts.{past_none, come_first, come_inside, come_on, come_fits, come_moves, come_there}
 use Rattle.reply.proofs.is_place.Goals as goal
 
 pub returns-then-s-place : goal.returns-then-s-place

@@ -1,8 +1,7 @@
 -- `is_place`: whether a block begins at the place is told by the blocks from here on, which go up to the end.
 use Prim.Native.Nat.{◌-◌}
-use native.Mathlib.Omega.{arith}
 use lib.ListN.{length}
-use Rattle.reply.proofs.Starts.{past_none, Come, come_first, come_inside, come_on, come_fits, come_moves, come_there}
+use Rattle.reply.proofs.Starts.{Come}
 use Rattle.reply.proofs.is_place.Given as goal
 
 abbrev pub invariant-loop-at : goal.invariant-loop-at

@@ -1,13 +1,10 @@
 -- `next_at`: the type 4 blocks from the place on are those from here on. A block is not empty and lies within the message, so the place
 -- moves on and stays inside.
 use Prim.Native.Nat.{◌≤◌, ◌-◌}
-use mathlib.Core.Path.{◌≡◌, refl}
-use native.Mathlib.Omega.{arith}
+use mathlib.Core.Path.{◌≡◌}
 use lib.ListN.{length}
 use Rattle.message.specs.Inside.{standards_from}
-use Rattle.message.proofs.Laws.{size_inside, moves_on}
-use Rattle.reply.proofs.Search.{past_end, found_none, found_here, goes_on_lem}
-use Rattle.format.specs.Sizes.{ipv4, ipv4_sound}
+use Rattle.format.specs.Sizes.{ipv4}
 use Rattle.reply.proofs.next_at.Given as goal
 
 abbrev pub invariant-loop-block : goal.invariant-loop-block

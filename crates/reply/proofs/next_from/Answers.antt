@@ -1,7 +1,6 @@
 -- `next_from`: nothing where the search came to the end, else the block that it found.
 use native.Mathlib.Omega.{arith}
 use Rattle.reply.proofs.Search.{hands_none, found_inside, hands_it}
-use borrow.Author.Rules.{rules}
 use Rattle.reply.proofs.next_from.Goals as goal
 
 pub returns-then-at-s : goal.returns-then-at-s

@@ -1,9 +1,6 @@
 -- `next_known`: the type 4 blocks from the place on are those from here on, and a block begins here or the message ends.
-use Prim.Native.Nat.{◌-◌}
 use native.Mathlib.Omega.{arith}
-use lib.ListN.{length}
-use Rattle.reply.proofs.Filled.{Sought, sought_first, sought_here, sought_inside, sought_on, sought_fits, sought_moves, sought_over}
-use borrow.Author.Rules.{rules}
+use Rattle.reply.proofs.Filled.{sought_first, sought_here, sought_inside, sought_on, sought_fits, sought_moves, sought_over}
 use Rattle.reply.proofs.next_known.Goals as goal
 
 pub loop-here-init : goal.loop-here-init

@@ -1,8 +1,7 @@
 -- `next_known`: the type 4 blocks from the place on are those from here on, and a block begins here or the message ends.
 use Prim.Native.Nat.{◌-◌}
-use native.Mathlib.Omega.{arith}
 use lib.ListN.{length}
-use Rattle.reply.proofs.Filled.{Sought, sought_first, sought_here, sought_inside, sought_on, sought_fits, sought_moves, sought_over}
+use Rattle.reply.proofs.Filled.{Sought}
 use Rattle.reply.proofs.next_known.Given as goal
 
 abbrev pub invariant-loop-here : goal.invariant-loop-here

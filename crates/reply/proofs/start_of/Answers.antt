@@ -1,6 +1,5 @@
 -- `start_of`: the first block where the check accepts, else the end.
 use Rattle.reply.proofs.Rows.{starts_first, starts_last}
-use borrow.Author.Rules.{rules}
 use Rattle.reply.proofs.start_of.Goals as goal
 
 pub returns-then-check-eq0 : goal.returns-then-check-eq0

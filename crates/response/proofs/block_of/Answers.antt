@@ -1,6 +1,5 @@
 -- `block_of`: each field by its own function.
 use Rattle.response.specs.Fill.{block_of}
-use borrow.Author.Rules.{rules}
 use Rattle.response.proofs.block_of.Goals as goal
 
 pub returns : goal.returns

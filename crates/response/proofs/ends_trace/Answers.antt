@@ -1,6 +1,5 @@
 -- `ends_trace`: by the route chosen, as the definition goes.
 use Rattle.response.proofs.Rows.{ends_found, ends_none}
-use borrow.Author.Rules.{rules}
 use Rattle.response.proofs.ends_trace.Goals as goal
 
 pub returns-in-Found : goal.returns-in-Found

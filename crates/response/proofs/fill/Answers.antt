@@ -1,6 +1,5 @@
 -- `fill`: nothing where tracing is prohibited; else by the route chosen.
 use Rattle.response.proofs.Rows.{fill_shut, fill_found, fill_none, fits_found}
-use borrow.Author.Rules.{rules}
 use Rattle.response.proofs.fill.Goals as goal
 
 pub returns-then-v : goal.returns-then-v

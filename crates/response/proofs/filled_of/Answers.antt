@@ -1,6 +1,5 @@
 -- `filled_of`: each field by its own function.
 use Rattle.response.specs.Fill.{filled_of}
-use borrow.Author.Rules.{rules}
 use Rattle.response.proofs.filled_of.Goals as goal
 
 pub returns : goal.returns

@@ -1,6 +1,5 @@
 -- `mask`: each way out is the one that its test picks.
 use Rattle.rows.proofs.Laws.{first}
-use borrow.Author.Rules.{rules}
 use Rattle.response.proofs.mask.Goals as goal
 
 pub returns-then-r-eq-GROUP_ONLY : goal.returns-then-r-eq-GROUP_ONLY

@@ -1,6 +1,5 @@
 -- `s_and_mask`: S and mask by the test of S; both fit one byte, since no mask passes 127.
 use Rattle.response.proofs.Rows.{mask_fits, s_set, s_clear}
-use borrow.Author.Rules.{rules}
 use Rattle.response.proofs.s_and_mask.Goals as goal
 
 pub overflow_add-result : goal.overflow_add-result

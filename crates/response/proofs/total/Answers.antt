@@ -1,6 +1,5 @@
 -- `total`: each way out is the one that its test picks.
 use Rattle.rows.proofs.Laws.{first}
-use borrow.Author.Rules.{rules}
 use Rattle.response.proofs.total.Goals as goal
 
 pub returns-then-r-eq-SOURCE_ONLY : goal.returns-then-r-eq-SOURCE_ONLY

@@ -1,6 +1,5 @@
 -- `upstream`: each way out is the one that its test picks.
 use Rattle.rows.proofs.Laws.{first}
-use borrow.Author.Rules.{rules}
 use Rattle.response.proofs.upstream.Goals as goal
 
 pub returns-then-all_ones : goal.returns-then-all_ones

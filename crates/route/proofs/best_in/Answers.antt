@@ -1,10 +1,6 @@
 -- `best_in`: after j turns the best is that of so far and j more.
-use Prim.Native.Nat.{◌+◌, ◌*◌, ◌-◌, ◌≤◌}
-use mathlib.Core.Path.{◌≡◌}
 use native.Mathlib.Omega.{arith}
-use Rattle.route.specs.Inside.{rank_at, best_with}
 use Rattle.route.proofs.Turns.{beside_within, beside_kept, best-start, best_more, best-end}
-use borrow.Author.Rules.{rules}
 use Rattle.route.proofs.best_in.Goals as goal
 
 pub loop-j-init : goal.loop-j-init

@@ -1,9 +1,7 @@
 -- `best_in`: after j turns the best is that of so far and j more.
 use Prim.Native.Nat.{◌+◌, ◌*◌, ◌-◌, ◌≤◌}
 use mathlib.Core.Path.{◌≡◌}
-use native.Mathlib.Omega.{arith}
 use Rattle.route.specs.Inside.{rank_at, best_with}
-use Rattle.route.proofs.Turns.{beside_within, beside_kept, best-start, best_more, best-end}
 use Rattle.route.proofs.best_in.Given as goal
 
 abbrev pub invariant-loop-j : goal.invariant-loop-j

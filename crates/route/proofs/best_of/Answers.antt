@@ -1,11 +1,9 @@
 -- `best_of`: with each block the best is that of the first k routes.
-use Prim.Native.Nat.{◌≤◌, ◌-◌}
-use mathlib.Core.Path.{◌≡◌, refl}
+use mathlib.Core.Path.{refl}
 use native.Mathlib.Omega.{arith}
 use Rattle.tables.proofs.Laws.{route_placed, routes_beside_lem, beside_some}
-use Rattle.route.specs.Inside.{best_with, best_of}
+use Rattle.route.specs.Inside.{best_with}
 use Rattle.route.proofs.Turns.{block_more, best_all}
-use borrow.Author.Rules.{rules}
 use Rattle.route.proofs.best_of.Goals as goal
 
 pub loop-k-init : goal.loop-k-init

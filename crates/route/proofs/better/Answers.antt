@@ -1,7 +1,6 @@
 -- `better`: the test picks, as in the definition.
 use Rattle.rows.proofs.Laws.{first}
 use Rattle.route.specs.Inside.{better}
-use borrow.Author.Rules.{rules}
 use Rattle.route.proofs.better.Goals as goal
 
 pub returns-then-b-rank : goal.returns-then-b-rank

@@ -1,6 +1,5 @@
 -- `choose`: the route of the highest rank is the one that is chosen (`chosen_by_rank`).
 use Rattle.route.proofs.Turns.{chosen_there, chosen_none, chosen_some}
-use borrow.Author.Rules.{rules}
 use Rattle.route.proofs.choose.Goals as goal
 
 pub returns-then-b-eq0 : goal.returns-then-b-eq0

@@ -1,6 +1,5 @@
 -- `of_source`: the tests of the definition, with the callees' answers.
 use Rattle.route.specs.Inside.{of_source}
-use borrow.Author.Rules.{rules}
 use Rattle.route.proofs.of_source.Goals as goal
 
 pub returns : goal.returns

@@ -1,7 +1,6 @@
 -- `rank`: each way out is the first test that holds.
 use Rattle.rows.proofs.Laws.{first}
 use Rattle.route.specs.Inside.{rank_as}
-use borrow.Author.Rules.{rules}
 use Rattle.route.proofs.rank.Goals as goal
 
 pub returns-then-kind-eq-GROUP_ONLY : goal.returns-then-kind-eq-GROUP_ONLY

@@ -2,7 +2,6 @@
 use Rattle.rows.proofs.Laws.{first}
 use Rattle.route.specs.Inside.{serves}
 use Rattle.route.proofs.ByKind.{by_source}
-use borrow.Author.Rules.{rules}
 use Rattle.route.proofs.serves.Goals as goal
 
 pub returns-then-kind-eq-SOURCE_ONLY : goal.returns-then-kind-eq-SOURCE_ONLY

@@ -1,6 +1,5 @@
 -- `kind_at`: the field of the record.
 use Rattle.route_entry.specs.Route.{route_at}
-use borrow.Author.Rules.{rules}
 use Rattle.route_entry.proofs.kind_at.Goals as goal
 
 pub returns : goal.returns

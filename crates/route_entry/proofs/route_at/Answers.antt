@@ -1,6 +1,5 @@
 -- `route_at`: each field by its reader.
 use Rattle.route_entry.specs.Route.{route_at}
-use borrow.Author.Rules.{rules}
 use Rattle.route_entry.proofs.route_at.Goals as goal
 
 pub returns : goal.returns

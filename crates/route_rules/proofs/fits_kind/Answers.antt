@@ -1,6 +1,5 @@
 -- `fits_kind`: the tests of the definition, with the callees' answers.
 
-use borrow.Author.Rules.{rules}
 use Rattle.route_rules.proofs.fits_kind.Goals as goal
 
 pub returns : goal.returns

@@ -1,6 +1,5 @@
 -- `group_ok`: the test of the definition, with the callee's answer.
 
-use borrow.Author.Rules.{rules}
 use Rattle.route_rules.proofs.group_ok.Goals as goal
 
 pub returns : goal.returns

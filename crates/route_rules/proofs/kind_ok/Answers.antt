@@ -1,6 +1,5 @@
 -- `kind_ok`: each kind by its own call, and no other kind.
 use Rattle.route_rules.proofs.Rules.{of_kind, of_no_kind}
-use borrow.Author.Rules.{rules}
 use Rattle.route_rules.proofs.kind_ok.Goals as goal
 
 pub returns-then-kind-eq-SOURCE_AND_GROUP : goal.returns-then-kind-eq-SOURCE_AND_GROUP

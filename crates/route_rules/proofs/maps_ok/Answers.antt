@@ -1,6 +1,5 @@
 -- `maps_ok`: left at the first map that has a bit too many.
 use Rattle.route_rules.proofs.Rules.{maps_first, maps_second, maps_third}
-use borrow.Author.Rules.{rules}
 use Rattle.route_rules.proofs.maps_ok.Goals as goal
 
 pub returns-then-le64-outside-ne0 : goal.returns-then-le64-outside-ne0

@@ -1,7 +1,6 @@
 -- `route_ok`: left at the first group of rules that is broken.
 use Rattle.route_entry.specs.Route.{route_at}
 use Rattle.route_rules.proofs.Rules.{wrong_kind, wrong_zeros, wrong_upward, as_maps}
-use borrow.Author.Rules.{rules}
 use Rattle.route_rules.proofs.route_ok.Goals as goal
 
 pub returns-then-not-kind_ok : goal.returns-then-not-kind_ok

@@ -1,7 +1,6 @@
 -- `upward_ok`: no interface here, or one of them with its upstream.
 use Rattle.route_entry.specs.Route.{route_at}
 use Rattle.route_rules.proofs.Rules.{upward_far, upward_unicast, upward_other}
-use borrow.Author.Rules.{rules}
 use Rattle.route_rules.proofs.upward_ok.Goals as goal
 
 pub returns-then-interfaces-incoming : goal.returns-then-interfaces-incoming

@@ -1,7 +1,6 @@
 -- `zeros_ok`: the zeros, then the source past its length.
 use Rattle.route_entry.specs.Route.{route_at}
 use Rattle.route_rules.proofs.Rules.{zeros_wrong, zeros_right}
-use borrow.Author.Rules.{rules}
 use Rattle.route_rules.proofs.zeros_ok.Goals as goal
 
 pub returns-then-s-at : goal.returns-then-s-at

@@ -1,6 +1,5 @@
 -- `note_on`: by the route chosen, as the definition goes.
 use Rattle.sending.proofs.Rows.{note_found, note_none}
-use borrow.Author.Rules.{rules}
 use Rattle.sending.proofs.note_on.Goals as goal
 
 pub returns-in-Found : goal.returns-in-Found

@@ -1,6 +1,5 @@
 -- `send_full`: what is written is the Reply without room.
 use Rattle.sending.proofs.Rows.{full_sent}
-use borrow.Author.Rules.{rules}
 use Rattle.sending.proofs.send_full.Goals as goal
 
 pub returns : goal.returns

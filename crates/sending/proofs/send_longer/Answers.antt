@@ -1,6 +1,5 @@
 -- `send_longer`: what is written is the Reply or the Request, as the end of the trace picks.
 use Rattle.sending.proofs.Rows.{longer_fits, home_sent, on_sent}
-use borrow.Author.Rules.{rules}
 use Rattle.sending.proofs.send_longer.Goals as goal
 
 pub write_longer-requires : goal.write_longer-requires

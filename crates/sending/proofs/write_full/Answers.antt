@@ -2,7 +2,6 @@
 use native.Mathlib.Omega.{arith}
 use lib.ListN.{length-set}
 use Rattle.sending.proofs.Writes.{full_written}
-use borrow.Author.Rules.{rules}
 use Rattle.sending.proofs.write_full.Goals as goal
 
 pub bounds-output-last : goal.bounds-output-last

@@ -4,7 +4,6 @@ use native.Mathlib.Omega.{arith}
 use lib.ListN.{length-set}
 use Rattle.written.proofs.Laws.{block_length}
 use Rattle.sending.proofs.Writes.{longer-written}
-use borrow.Author.Rules.{rules}
 use Rattle.sending.proofs.write_longer.Goals as goal
 
 pub copy_to-requires-2 : goal.copy_to-requires-2

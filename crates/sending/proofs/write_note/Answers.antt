@@ -1,6 +1,5 @@
 -- `write_note`: the record's bytes, copied.
 use Rattle.sending.proofs.Writes.{note_written}
-use borrow.Author.Rules.{rules}
 use Rattle.sending.proofs.write_note.Goals as goal
 
 pub returns : goal.returns

@@ -1,6 +1,5 @@
 -- `bough_walk`: too little room, or what the walk tells.
 use Rattle.servicebough.proofs.Rows.{no_answer, walk-told}
-use borrow.Author.Rules.{rules}
 use Rattle.servicebough.proofs.bough_walk.Goals as goal
 
 pub returns-then-answer-lt-ANSWER_SIZE : goal.returns-then-answer-lt-ANSWER_SIZE

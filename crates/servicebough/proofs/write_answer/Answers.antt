@@ -1,6 +1,5 @@
 -- `write_answer`: nothing, or four numbers one behind the other.
 use Rattle.servicebough.proofs.Rows.{not_answered, answered}
-use borrow.Author.Rules.{rules}
 use Rattle.servicebough.proofs.write_answer.Goals as goal
 
 pub returns-then-w-lt-SENT_HOME : goal.returns-then-w-lt-SENT_HOME

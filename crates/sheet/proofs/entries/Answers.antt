@@ -1,7 +1,6 @@
 -- `entries`: no blocks, or full blocks and a last one.
 use native.Mathlib.Omega.{arith}
 use Rattle.sheet.proofs.Counts.{entries_none, entries_some, entries_few}
-use borrow.Author.Rules.{rules}
 use Rattle.sheet.proofs.entries.Goals as goal
 
 pub returns-then-count-eq0 : goal.returns-then-count-eq0

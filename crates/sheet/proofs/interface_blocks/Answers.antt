@@ -1,8 +1,6 @@
 -- `interface_blocks`: the k blocks that were passed are interface blocks.
-use Prim.Native.Nat.{◌-◌, ◌≤◌}
 use native.Mathlib.Omega.{arith}
-use Rattle.sheet.proofs.Leading.{FirstOnes, one_more, other_next, none_next}
-use borrow.Author.Rules.{rules}
+use Rattle.sheet.proofs.Leading.{one_more, other_next, none_next}
 use Rattle.sheet.proofs.interface_blocks.Goals as goal
 
 pub loop-k-init : goal.loop-k-init

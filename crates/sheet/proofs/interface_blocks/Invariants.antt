@@ -1,7 +1,6 @@
 -- `interface_blocks`: the k blocks that were passed are interface blocks.
 use Prim.Native.Nat.{◌-◌, ◌≤◌}
-use native.Mathlib.Omega.{arith}
-use Rattle.sheet.proofs.Leading.{FirstOnes, one_more, other_next, none_next}
+use Rattle.sheet.proofs.Leading.{FirstOnes}
 use Rattle.sheet.proofs.interface_blocks.Given as goal
 
 abbrev pub invariant-loop-k : goal.invariant-loop-k

@@ -1,11 +1,9 @@
 -- `interface_blocks_ok`: the k blocks that were passed are interface blocks that keep their rules.
 use Prim.Native.Nat.{◌-◌, ◌≤◌}
 use mathlib.Core.Bool.{true}
-use mathlib.Core.Path.{◌≡◌, refl}
-use native.Mathlib.Omega.{arith}
+use mathlib.Core.Path.{◌≡◌}
 use Rattle.sheet_block.specs.Every.{every}
 use Rattle.sheet.specs.Sheet.{interface_block_ok}
-use Rattle.sheet_block.proofs.Laws.{every-next, every_stops, every_all}
 use Rattle.sheet.proofs.interface_blocks_ok.Given as goal
 
 abbrev pub invariant-loop-k : goal.invariant-loop-k

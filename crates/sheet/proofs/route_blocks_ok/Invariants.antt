@@ -2,11 +2,8 @@
 use Prim.Native.Nat.{◌-◌, ◌≤◌}
 use mathlib.Core.Bool.{true}
 use mathlib.Core.Path.{◌≡◌}
-use native.Mathlib.Omega.{arith}
 use Rattle.sheet_block.specs.Every.{every}
 use Rattle.sheet.specs.Sheet.{block_ok_with}
-use Rattle.sheet_block.proofs.Laws.{every-next, every_stops, every_all}
-use Rattle.sheet.proofs.Leading.{second_kind}
 use Rattle.sheet.proofs.route_blocks_ok.Given as goal
 
 abbrev pub invariant-loop-k : goal.invariant-loop-k

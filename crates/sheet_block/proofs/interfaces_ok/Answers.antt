@@ -1,13 +1,9 @@
 -- `interfaces_ok`: the first j interfaces keep their rules.
-use Prim.Native.Nat.{◌-◌, ◌≤◌}
-use mathlib.Core.Bool.{true}
-use mathlib.Core.Path.{◌≡◌, refl}
+use mathlib.Core.Path.{refl}
 use native.Mathlib.Omega.{arith}
 use Rattle.sheet_block.specs.Every.{every}
-use Rattle.sheet_block.specs.Rules.{interface_right, entries_ok}
 use Rattle.sheet_block.proofs.Frames.{interface_within}
 use Rattle.sheet_block.proofs.Laws.{every-next, every_stops, every_all}
-use borrow.Author.Rules.{rules}
 use Rattle.sheet_block.proofs.interfaces_ok.Goals as goal
 
 pub loop-j-init : goal.loop-j-init

@@ -1,12 +1,8 @@
 -- `interfaces_ok`: the first j interfaces keep their rules.
 use Prim.Native.Nat.{◌-◌, ◌≤◌}
 use mathlib.Core.Bool.{true}
-use mathlib.Core.Path.{◌≡◌, refl}
-use native.Mathlib.Omega.{arith}
-use Rattle.sheet_block.specs.Every.{every}
+use mathlib.Core.Path.{◌≡◌}
 use Rattle.sheet_block.specs.Rules.{interface_right, entries_ok}
-use Rattle.sheet_block.proofs.Frames.{interface_within}
-use Rattle.sheet_block.proofs.Laws.{every-next, every_stops, every_all}
 use Rattle.sheet_block.proofs.interfaces_ok.Given as goal
 
 abbrev pub invariant-loop-j : goal.invariant-loop-j

@@ -1,10 +1,7 @@
 -- `routes_ok`: the first j routes keep their rules.
-use Prim.Native.Nat.{◌-◌, ◌≤◌}
-use mathlib.Core.Bool.{true}
-use mathlib.Core.Path.{◌≡◌, refl}
+use mathlib.Core.Path.{refl}
 use native.Mathlib.Omega.{arith}
 use Rattle.sheet_block.specs.Every.{every}
-use Rattle.sheet_block.specs.Rules.{route_right, entries_ok}
 use Rattle.sheet_block.proofs.Frames.{route_entry_within}
 use Rattle.sheet_block.proofs.Laws.{every-next, every_stops, every_all}
 use borrow.Author.Rules.{rules}

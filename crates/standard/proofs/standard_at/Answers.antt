@@ -1,6 +1,5 @@
 -- `standard_at`: the bytes copied are the block's.
 use Rattle.standard.proofs.Fields.{copied}
-use borrow.Author.Rules.{rules}
 use Rattle.standard.proofs.standard_at.Goals as goal
 
 pub returns : goal.returns

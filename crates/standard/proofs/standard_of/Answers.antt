@@ -1,6 +1,5 @@
 -- `standard_of`: each field is what was read at its place.
 use Rattle.standard.proofs.Fields.{fields_of}
-use borrow.Author.Rules.{rules}
 use Rattle.standard.proofs.standard_of.Goals as goal
 
 pub returns : goal.returns

@@ -1,10 +1,6 @@
 -- `holder`: the whole search is the search from interface i on.
-use Prim.Native.Nat.{◌-◌, ◌≤◌}
-use mathlib.Core.Path.{◌≡◌}
 use native.Mathlib.Omega.{arith}
-use Rattle.tables.specs.Tables.{holder_of}
-use Rattle.tables.proofs.Reading.{searched, few_there, address_within, search_start, search_found, search_on, search_none}
-use borrow.Author.Rules.{rules}
+use Rattle.tables.proofs.Reading.{few_there, address_within, search_start, search_found, search_on, search_none}
 use Rattle.tables.proofs.holder.Goals as goal
 
 pub loop-i-init : goal.loop-i-init

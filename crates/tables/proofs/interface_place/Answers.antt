@@ -1,7 +1,6 @@
 -- `interface_place`: a block has room for an interface, and the place of one of the first 64 is low.
 use native.Mathlib.Omega.{arith}
 use Rattle.tables.proofs.Reading.{interface_each, interface_low}
-use borrow.Author.Rules.{rules}
 use Rattle.tables.proofs.interface_place.Goals as goal
 
 pub nonzero_div-result : goal.nonzero_div-result

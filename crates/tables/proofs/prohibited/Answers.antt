@@ -1,6 +1,5 @@
 -- `prohibited`: block 0 is the front of the sheet.
 use Rattle.tables.proofs.Reading.{switches_read}
-use borrow.Author.Rules.{rules}
 use Rattle.tables.proofs.prohibited.Goals as goal
 
 pub returns : goal.returns

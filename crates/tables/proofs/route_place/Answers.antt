@@ -1,7 +1,6 @@
 -- `route_place`: a block has room for a route, and its place is within a sheet.
 use native.Mathlib.Omega.{arith}
 use Rattle.tables.proofs.Reading.{route_each}
-use borrow.Author.Rules.{rules}
 use Rattle.tables.proofs.route_place.Goals as goal
 
 pub nonzero_div-result : goal.nonzero_div-result

@@ -1,7 +1,6 @@
 -- `routes_beside`: a block has room for a route, and some is left behind the routes before `k`.
 use native.Mathlib.Omega.{arith}
 use Rattle.tables.proofs.Reading.{route_each, route-next}
-use borrow.Author.Rules.{rules}
 use Rattle.tables.proofs.routes_beside.Goals as goal
 
 pub nonzero_rem-room : goal.nonzero_rem-room

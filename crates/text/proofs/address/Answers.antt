@@ -1,6 +1,5 @@
 -- `address`: a word, and then an address.
 use Rattle.text.proofs.Written.{then}
-use borrow.Author.Rules.{rules}
 use Rattle.text.proofs.address.Goals as goal
 
 pub returns : goal.returns

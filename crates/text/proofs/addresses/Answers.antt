@@ -1,7 +1,6 @@
 -- `addresses`: three of them.
 use Rattle.text.proofs.Written.{three_addresses}
 use Rattle.text.specs.Ascii.{ascii}
-use borrow.Author.Rules.{rules}
 use Rattle.text.proofs.addresses.Goals as goal
 
 pub returns : goal.returns

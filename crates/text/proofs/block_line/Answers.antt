@@ -1,6 +1,5 @@
 -- `block_line`: a line, or none.
 use Rattle.text.proofs.Passed.{line-told, line_none}
-use borrow.Author.Rules.{rules}
 use Rattle.text.proofs.block_line.Goals as goal
 
 pub line-requires : goal.line-requires

@@ -2,7 +2,6 @@
 use Rattle.text.proofs.Written.{then}
 use Rattle.text.specs.Ascii.{ascii}
 use Rattle.text.specs.Text.{code_text}
-use borrow.Author.Rules.{rules}
 use Rattle.text.proofs.code.Goals as goal
 
 pub returns : goal.returns

@@ -1,7 +1,6 @@
 -- `dotted`: four octets, three of them with a dot behind.
 use Rattle.text.proofs.Written.{octets_dotted}
 use Rattle.text.specs.Ascii.{ascii}
-use borrow.Author.Rules.{rules}
 use Rattle.text.proofs.dotted.Goals as goal
 
 pub returns : goal.returns

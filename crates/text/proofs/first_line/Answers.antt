@@ -1,7 +1,6 @@
 -- `first_line`: its four parts.
 use Rattle.text.proofs.Written.{parts_of_first}
 use Rattle.text.specs.Ascii.{ascii}
-use borrow.Author.Rules.{rules}
 use Rattle.text.proofs.first_line.Goals as goal
 
 pub returns : goal.returns

@@ -1,7 +1,6 @@
 -- `line`: its three parts.
 use Rattle.text.proofs.Written.{parts_of_line}
 use Rattle.text.specs.Ascii.{ascii}
-use borrow.Author.Rules.{rules}
 use Rattle.text.proofs.line.Goals as goal
 
 pub returns : goal.returns

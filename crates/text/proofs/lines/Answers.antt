@@ -1,10 +1,8 @@
 -- `lines`: what is written so far are the lines of the type 4 blocks that were passed.
-use Prim.Native.Nat.{◌-◌}
-use mathlib.Core.Path.{◌≡◌, refl}
+use mathlib.Core.Path.{refl}
 use native.Mathlib.Omega.{arith}
-use lib.ListN.{length}
 use Rattle.message.proofs.Laws.{size_inside, moves_on}
-use Rattle.text.proofs.Passed.{SoFar, no_lines, none_yet, all_lines, line_fits, one_passed}
+use Rattle.text.proofs.Passed.{no_lines, none_yet, all_lines, line_fits, one_passed}
 use Rattle.format.specs.Sizes.{ipv4_sound}
 use borrow.Author.Rules.{rules}
 use Rattle.text.proofs.lines.Goals as goal

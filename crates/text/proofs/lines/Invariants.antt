@@ -1,11 +1,8 @@
 -- `lines`: what is written so far are the lines of the type 4 blocks that were passed.
 use Prim.Native.Nat.{◌-◌}
-use mathlib.Core.Path.{◌≡◌, refl}
-use native.Mathlib.Omega.{arith}
+use mathlib.Core.Path.{◌≡◌}
 use lib.ListN.{length}
-use Rattle.message.proofs.Laws.{size_inside, moves_on}
-use Rattle.text.proofs.Passed.{SoFar, no_lines, none_yet, all_lines, line_fits, one_passed}
-use Rattle.format.specs.Sizes.{ipv4_sound}
+use Rattle.text.proofs.Passed.{SoFar}
 use Rattle.text.proofs.lines.Given as goal
 
 abbrev pub invariant-loop-block : goal.invariant-loop-block

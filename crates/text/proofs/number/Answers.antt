@@ -1,6 +1,5 @@
 -- `number`: a word, and then the digits.
 use Rattle.text.proofs.Written.{then}
-use borrow.Author.Rules.{rules}
 use Rattle.text.proofs.number.Goals as goal
 
 pub returns : goal.returns

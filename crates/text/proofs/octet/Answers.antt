@@ -1,6 +1,5 @@
 -- `octet`: the digits, and then a word.
 use Rattle.text.proofs.Written.{then}
-use borrow.Author.Rules.{rules}
 use Rattle.text.proofs.octet.Goals as goal
 
 pub returns : goal.returns

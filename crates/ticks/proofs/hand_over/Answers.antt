@@ -1,6 +1,5 @@
 -- `hand_over`: each way out is a row of the promise.
 use Rattle.ticks.proofs.Rows.{no_room, handed_on, written}
-use borrow.Author.Rules.{rules}
 use Rattle.ticks.proofs.hand_over.Goals as goal
 
 pub returns-then-out-lt-TICK_SIZE : goal.returns-then-out-lt-TICK_SIZE

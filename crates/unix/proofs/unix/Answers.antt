@@ -3,7 +3,6 @@ use mathlib.Core.Logic.{⊎_elim}
 use Rattle.rows.specs.Rows.{by_first}
 use Rattle.rows.proofs.Laws.{first}
 use Rattle.unix.specs.Unix.{unix_of}
-use borrow.Author.Rules.{rules}
 use Rattle.unix.proofs.unix.Goals as goal
 
 pub returns-then-seconds-gt-LAST_SECOND : goal.returns-then-seconds-gt-LAST_SECOND

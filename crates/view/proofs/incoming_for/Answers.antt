@@ -2,7 +2,6 @@
 use Rattle.sheet.proofs.Laws.{interface_few}
 use Rattle.tables.proofs.Laws.{place_within, interface-told}
 use Rattle.view.proofs.Rows.{incoming_unknown, incoming_there, incoming_known, incoming_none}
-use borrow.Author.Rules.{rules}
 use Rattle.view.proofs.incoming_for.Goals as goal
 
 pub returns-then-r : goal.returns-then-r

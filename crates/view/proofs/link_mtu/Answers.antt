@@ -1,6 +1,5 @@
 -- `link_mtu`: by the incoming interface, as the definition goes.
 use Rattle.view.proofs.Rows.{link_known}
-use borrow.Author.Rules.{rules}
 use Rattle.view.proofs.link_mtu.Goals as goal
 
 pub returns-in-Known : goal.returns-in-Known

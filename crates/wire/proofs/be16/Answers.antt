@@ -1,7 +1,6 @@
 -- `be16`: the sum of the two bytes by their weights is what `be` computes to.
 use native.Mathlib.Omega.{arith}
 use Rattle.wire.specs.Numbers.{be}
-use borrow.Author.Rules.{rules}
 use Rattle.wire.proofs.be16.Goals as goal
 
 pub returns : goal.returns

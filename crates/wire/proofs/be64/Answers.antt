@@ -4,7 +4,6 @@ use mathlib.Core.List.{List}
 use mathlib.Core.Path.{◌≡◌}
 use native.Mathlib.Omega.{arith}
 use Rattle.wire.specs.Numbers.{be, be16, be64}
-use borrow.Author.Rules.{rules}
 use Rattle.wire.proofs.be64.Goals as goal
 
 quarters : (s : List ℕ) (at a b c d : ℕ) → a ≡ be16 s at → b ≡ be16 s (at + 2) → c ≡ be16 s (at + 4) → d ≡ be16 s (at + 6)

@@ -1,11 +1,9 @@
 -- `copy_to`: after i turns the destination is the old one with the first i bytes of the source pasted in.
-use Prim.Native.Nat.{◌≤◌, ◌-◌}
-use mathlib.Core.Path.{◌≡◌, refl}
+use mathlib.Core.Path.{refl}
 use native.Mathlib.Omega.{arith}
-use lib.ListN.{length, length-set}
-use lib.Seq.{paste, paste-zero}
+use lib.ListN.{length-set}
+use lib.Seq.{paste-zero}
 use Rattle.wire.proofs.Writes.{copied_more, copied_all}
-use borrow.Author.Rules.{rules}
 use Rattle.wire.proofs.copy_to.Goals as goal
 
 pub loop-i-init : goal.loop-i-init

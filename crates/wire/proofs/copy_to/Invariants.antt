@@ -1,10 +1,8 @@
 -- `copy_to`: after i turns the destination is the old one with the first i bytes of the source pasted in.
 use Prim.Native.Nat.{◌≤◌, ◌-◌}
-use mathlib.Core.Path.{◌≡◌, refl}
-use native.Mathlib.Omega.{arith}
-use lib.ListN.{length, length-set}
-use lib.Seq.{paste, paste-zero}
-use Rattle.wire.proofs.Writes.{copied_more, copied_all}
+use mathlib.Core.Path.{◌≡◌}
+use lib.ListN.{length}
+use lib.Seq.{paste}
 use Rattle.wire.proofs.copy_to.Given as goal
 
 abbrev pub invariant-loop-i : goal.invariant-loop-i

@@ -2,7 +2,6 @@
 use native.Mathlib.Omega.{arith}
 use lib.ListN.{length-set}
 use Rattle.wire.proofs.Writes.{pair_stored}
-use borrow.Author.Rules.{rules}
 use Rattle.wire.proofs.put16.Goals as goal
 
 pub bounds-s-at-2 : goal.bounds-s-at-2

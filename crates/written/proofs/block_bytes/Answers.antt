@@ -1,6 +1,5 @@
 -- `block_bytes`: the fields written one behind the other into zeros.
 use Rattle.written.proofs.Stores.{block_stored}
-use borrow.Author.Rules.{rules}
 use Rattle.written.proofs.block_bytes.Goals as goal
 
 pub returns : goal.returns

@@ -1,6 +1,5 @@
 -- `note_bytes`: the fields written one behind the other into zeros.
 use Rattle.written.proofs.Stores.{note_stored}
-use borrow.Author.Rules.{rules}
 use Rattle.written.proofs.note_bytes.Goals as goal
 
 pub returns : goal.returns

@@ -2,7 +2,6 @@
 use Rattle.yard.proofs.Rows.{no_block, count_fits, counted}
 use Rattle.format.specs.Sizes.{ipv4_sound}
 use Rattle.written.proofs.Laws.{ipv4_writes}
-use borrow.Author.Rules.{rules}
 use Rattle.yard.proofs.count.Goals as goal
 
 pub returns-then-sent-lt-HEADER_SIZE : goal.returns-then-sent-lt-HEADER_SIZE

@@ -2,7 +2,6 @@
 use Rattle.format.specs.Sizes.{ipv4_sound}
 use Rattle.written.proofs.Laws.{ipv4_writes}
 use Rattle.yard.proofs.Rows.{hop_ends, hop_group, hop_on, hop_nobody, held_fits}
-use borrow.Author.Rules.{rules}
 use Rattle.yard.proofs.enter.Goals as goal
 
 pub returns-then-c-ne-SENT_ON : goal.returns-then-c-ne-SENT_ON

@@ -1,11 +1,7 @@
 -- `holder_in`: the whole search is the search from router i on.
-use Rattle.format.specs.Sizes.{ipv4, ipv4_sound}
-use Prim.Native.Nat.{◌≤◌, ◌-◌}
-use mathlib.Core.Path.{◌≡◌}
+use Rattle.format.specs.Sizes.{ipv4_sound}
 use native.Mathlib.Omega.{arith}
-use Rattle.yard.specs.Yard.{lowest_from, holder_in}
 use Rattle.yard.proofs.Sheets.{count-told, search_start, search_found, search_on, search_none}
-use borrow.Author.Rules.{rules}
 use Rattle.yard.proofs.holder_in.Goals as goal
 
 pub loop-i-init : goal.loop-i-init

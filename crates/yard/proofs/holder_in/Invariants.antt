@@ -1,10 +1,8 @@
 -- `holder_in`: the whole search is the search from router i on.
-use Rattle.format.specs.Sizes.{ipv4, ipv4_sound}
+use Rattle.format.specs.Sizes.{ipv4}
 use Prim.Native.Nat.{◌≤◌, ◌-◌}
 use mathlib.Core.Path.{◌≡◌}
-use native.Mathlib.Omega.{arith}
 use Rattle.yard.specs.Yard.{lowest_from, holder_in}
-use Rattle.yard.proofs.Sheets.{count-told, search_start, search_found, search_on, search_none}
 use Rattle.yard.proofs.holder_in.Given as goal
 
 abbrev pub invariant-loop-i : goal.invariant-loop-i

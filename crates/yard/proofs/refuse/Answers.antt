@@ -4,7 +4,6 @@ use lib.Dec.{lit≤}
 use Rattle.format.specs.Sizes.{ipv4_sound}
 use Rattle.written.proofs.Laws.{ipv4_writes}
 use Rattle.yard.proofs.Rows.{no_block}
-use borrow.Author.Rules.{rules}
 use Rattle.yard.proofs.refuse.Goals as goal
 
 pub returns : goal.returns

@@ -1,15 +1,10 @@
 -- `sheets_ok`: after i turns the first i sheets are right, and their interfaces are counted.
-use Rattle.format.specs.Sizes.{ipv4}
-use Prim.Native.Nat.{ℕ, ◌≤◌, ◌-◌}
-use mathlib.Core.Bool.{true}
+use Prim.Native.Nat.{ℕ}
 use mathlib.Core.Path.{◌≡◌, refl}
 use native.Mathlib.Omega.{arith}
-use lib.ListN.{length, length-set}
+use lib.ListN.{length-set}
 use Rattle.sheet_block.specs.Every.{every}
-use Rattle.yard.specs.Yard.{valid_at}
-use Rattle.yard.specs.Inside.{Counted}
 use Rattle.yard.proofs.Sheets.{counted_none, checked_more, checked_wrong, counted_more, checked_all, counted_all}
-use borrow.Author.Rules.{rules}
 use Rattle.yard.proofs.sheets_ok.Goals as goal
 
 pub loop-i-init : goal.loop-i-init

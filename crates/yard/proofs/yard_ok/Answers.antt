@@ -1,7 +1,6 @@
 -- `yard_ok`: the size is tested first, so that every sheet lies within the yard.
 use native.Mathlib.Omega.{arith}
 use Rattle.yard.proofs.Sheets.{wrong_size_lem, sheets_few, sheets_counted, yard_checked}
-use borrow.Author.Rules.{rules}
 use Rattle.yard.proofs.yard_ok.Goals as goal
 
 pub returns-then-not-size_ok : goal.returns-then-not-size_ok

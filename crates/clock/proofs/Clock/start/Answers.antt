@@ -2,7 +2,6 @@
 use Rattle.rows.specs.Rows.{by_first}
 use Rattle.rows.proofs.Laws.{first}
 use Rattle.clock.specs.Clock.{start_of}
-use borrow.Author.Rules.{rules}
 use Rattle.clock.proofs.Clock.start.Goals as goal
 
 pub returns-then-reading-gt-LAST_TIME : goal.returns-then-reading-gt-LAST_TIME

@@ -1,7 +1,6 @@
 -- `time_for`: each way out by its law.
 use native.Mathlib.Omega.{arith}
 use Rattle.clock.proofs.Time.{time_caught, time_ahead}
-use borrow.Author.Rules.{rules}
 use Rattle.clock.proofs.Clock.time_for.Goals as goal
 
 pub returns-then-y-r : goal.returns-then-y-r
