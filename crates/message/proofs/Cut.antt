@@ -98,7 +98,7 @@ module _ {F : Format} (sound : Sound F) where
   module _
       (P : ℕ → List ℕ → Type 0)
       (ends : (at : ℕ) (rest : List ℕ) → begins F rest ≡ false → P at rest)
-      (goes_on_lem : (at : ℕ) (rest : List ℕ) → begins F rest ≡ true → P (at + be16 rest 1) (drop (be16 rest 1) rest) → P at rest)
+      (goes_on : (at : ℕ) (rest : List ℕ) → begins F rest ≡ true → P (at + be16 rest 1) (drop (be16 rest 1) rest) → P at rest)
     where
       by_turns : (n at : ℕ) (rest : List ℕ) → length rest ≤ n → P at rest
       by_turns zero at rest h = ends at rest (too_short rest (omega arith))
@@ -106,7 +106,7 @@ module _ {F : Format} (sound : Sound F) where
           ⊎_elim
           (λ e.
           let b = begun rest e in
-          goes_on_lem at rest e (by_turns n (at + be16 rest 1) (drop (be16 rest 1) rest) (rw (length-drop (be16 rest 1) rest) (omega (arith, b.least)))))
+          goes_on at rest e (by_turns n (at + be16 rest 1) (drop (be16 rest 1) rest) (rw (length-drop (be16 rest 1) rest) (omega (arith, b.least)))))
           (ends at rest)
           (decided (begins F rest))
 

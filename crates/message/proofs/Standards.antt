@@ -64,7 +64,7 @@ module _ {F : Format} (sound : Sound F) where
   module _
       (Q : ℕ → List ℕ → ℕ → Type 0)
       (in-front : (at : ℕ) (rest : List ℕ) → begins F rest ≡ true → byte_at rest 0 ≡ standard → Q at rest at)
-      (goes_on_lem : (at : ℕ) (rest : List ℕ) (p : ℕ) → begins F rest ≡ true → Q (at + be16 rest 1) (drop (be16 rest 1) rest) p → Q at rest p)
+      (goes_on : (at : ℕ) (rest : List ℕ) (p : ℕ) → begins F rest ≡ true → Q (at + be16 rest 1) (drop (be16 rest 1) rest) p → Q at rest p)
     where
       Each : ℕ → List ℕ → List ℕ → Type 0
       Each at rest places = (k : ℕ) → k < length places → Q at rest (get_or places k 0)
@@ -80,7 +80,7 @@ module _ {F : Format} (sound : Sound F) where
       unfolding Each
       each_behind at rest b f =
           let places : List ℕ = standard_places (behind at rest b) in
-          let g : Each at rest places = λ k h. goes_on_lem at rest (get_or places k 0) b (f k h) in
+          let g : Each at rest places = λ k h. goes_on at rest (get_or places k 0) b (f k h) in
           ⊎_elim
           (λ e. rw (places_more at rest b e) (each_more at rest places (in-front at rest b (eqb-true _ _ e)) g))
           (λ e. rw (places_same at rest b e) g)

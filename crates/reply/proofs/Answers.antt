@@ -60,8 +60,8 @@ module _ (s : List ℕ) (at : ℕ) (r : Reached s at) where
       (decided (eqb at (length s)))
 
 -- where a block is left the message goes on
-goes_on_lem : (s : List ℕ) (at : ℕ) → Reached s at → 0 < length (standards_from ipv4 s at) → at < length s
-goes_on_lem s at r some =
+goes_on : (s : List ℕ) (at : ℕ) → Reached s at → 0 < length (standards_from ipv4 s at) → at < length s
+goes_on s at r some =
     ⊎_elim (λ e. ltb-true _ _ e)
     (λ e.
     let end : at ≡ length s = omega (arith, fills_high s at r.fills, ltb-false at (length s) e) in
@@ -74,7 +74,7 @@ behind_reached : (turns : ℕ) (s : List ℕ) (at : ℕ) → length s - at < tur
     → Reached s (get_or (standards_from ipv4 s at) 0 0 + standard_size)
 behind_reached zero s at h r some = absurd (omega arith)
 behind_reached (suc turns) s at h r some =
-    let low = goes_on_lem s at r some in
+    let low = goes_on s at r some in
     let block = block_at ipv4 s at in
     let there = not_empty s at r.fills low in
     ⊎_elim

@@ -42,4 +42,4 @@ open_determined reply x y p q = λ i. record { reply = both_are p.holds q.holds 
 pub next_determined : (r : Reader) (x y : Handed) (left also : Reader) → Hands r x left → Hands r y also → (x ≡ y) × (left ≡ also)
 next_determined r x y left also p q =
     let same : x ≡ y = both_are p.hands q.hands in
-    (same, (λ i. record { reply = both_are p.holds q.holds i; place = both_are (p.goes_on_lem ∙ ap (λ (h : Handed). h.place) same) q.goes_on_lem i }))
+    (same, (λ i. record { reply = both_are p.holds q.holds i; place = both_are (p.goes_on ∙ ap (λ (h : Handed). h.place) same) q.goes_on i }))

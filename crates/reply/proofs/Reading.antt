@@ -52,7 +52,7 @@ calls_left r (h ∷ hs) left (again {next = next} a c) =
     let later = calls_left next hs left c in
     let s : List ℕ = r.reply.now in
     let from : blocks_out hs ≡ take (length hs) (left_from s (next_from s r.place).place) =
-    later.0 ∙ rw (a.holds, a.goes_on_lem, a.hands) in
+    later.0 ∙ rw (a.holds, a.goes_on, a.hands) in
     (rw a.hands (next_left s r.place (length hs) (blocks_out hs) from), later.1 ∙ a.holds)
 
 -- the blocks from the first place on are all of them

@@ -26,8 +26,8 @@ module _ (s : List ℕ) (place at : ℕ) (block : BlockHead) (b : block ≡ bloc
     unfolding first_or
     found_here k = rw (so_far, standards_more ipv4_sound s at block b some (eq-eqb _ _ k))
 
-    pub goes_on_lem : (block.kind ≡ standard → ⊥) → standards_from ipv4 s place ≡ standards_from ipv4 s (at + block.size)
-    goes_on_lem k = so_far ∙ standards_same ipv4_sound s at block b some (ne_eqb _ _ k)
+    pub goes_on : (block.kind ≡ standard → ⊥) → standards_from ipv4 s place ≡ standards_from ipv4 s (at + block.size)
+    goes_on k = so_far ∙ standards_same ipv4_sound s at block b some (ne_eqb _ _ k)
 
 -- past the end there is no block
 pub past_end : (s : List ℕ) (place : ℕ) → length s < place → length s ≡ first_or (length s) (standards_from ipv4 s place)

@@ -42,7 +42,7 @@ pub record Opens (reply : Bor (List ℕ)) (r : Reader) : Type 0 where
 pub record Hands (r : Reader) (h : Handed) (left : Reader) : Type 0 where
   pub hands : h ≡ next_from r.reply.now r.place
   pub holds : left.reply ≡ r.reply
-  pub goes_on_lem : left.place ≡ h.place
+  pub goes_on : left.place ≡ h.place
 
 -- and called again, so often: from a reader, by what each call hands out, to the reader as the last one leaves it
 pub data Calls : Reader → List Handed → Reader → Type 0 where

@@ -3,7 +3,7 @@
 use mathlib.Core.Path.{refl}
 use native.Mathlib.Omega.{arith}
 use Rattle.message.proofs.Laws.{size_inside, moves_on}
-use Rattle.reply.proofs.Search.{past_end, found_none, found_here, goes_on_lem}
+use Rattle.reply.proofs.Search.{past_end, found_none, found_here, goes_on}
 use Rattle.format.specs.Sizes.{ipv4_sound}
 use borrow.Author.Rules.{rules}
 use Rattle.reply.proofs.next_at.Goals as goal
@@ -28,4 +28,4 @@ pub loop-block-smaller : goal.loop-block-smaller
 loop-block-smaller c = search (moves_on, ipv4_sound)
 
 pub loop-block-preserved : goal.loop-block-preserved
-loop-block-preserved c = (search (size_inside, ipv4_sound), search goes_on_lem)
+loop-block-preserved c = (search (size_inside, ipv4_sound), search goes_on)
