@@ -89,10 +89,10 @@ fn command(input: &mut impl Read, out: &mut impl Write, held: Clock) -> io::Resu
     Ok(Turn { more: true, held })
 }
 
-// Nothing says that the input ends, so the loop counts its turns, of which there are more than any input has commands.
+// Nothing says that the input ends, so the loop counts its turns up to more than are stored.
 fn run_all(input: &mut impl Read, out: &mut impl Write) -> io::Result<()> {
     let mut held = Clock { r: 0, y: 0 };
-    for _ in 0..u64::MAX {
+    for _ in 0..1000000 {
         let t = command(input, out, held)?;
         if !t.more {
             break;

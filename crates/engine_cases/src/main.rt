@@ -127,7 +127,7 @@ fn run(
     Ok(true)
 }
 
-// Nothing says that the input ends, so the loop counts its turns, of which there are more than any input has commands.
+// Nothing says that the input ends, so the loop counts its turns up to more than are stored.
 fn run_all(
     input: &mut impl Read,
     out: &mut impl Write,
@@ -139,7 +139,7 @@ fn run_all(
     answers: &mut [u64; 256],
     codes: &mut [u64; 256],
 ) -> io::Result<()> {
-    for _ in 0..u64::MAX {
+    for _ in 0..1000000 {
         if !run(
             input, out, message, sheet, recent, output, record, answers, codes,
         )? {

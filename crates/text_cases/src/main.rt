@@ -34,9 +34,9 @@ fn run(input: &mut impl Read, out: &mut impl Write, area: &mut [u8]) -> io::Resu
     Ok(true)
 }
 
-// Nothing says that the input ends, so the loop counts its turns, of which there are more than any input has commands.
+// Nothing says that the input ends, so the loop counts its turns up to more than are stored.
 fn run_all(input: &mut impl Read, out: &mut impl Write, area: &mut [u8]) -> io::Result<()> {
-    for _ in 0..u64::MAX {
+    for _ in 0..1000000 {
         if !run(input, out, area)? {
             break;
         }
