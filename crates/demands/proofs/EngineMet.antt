@@ -12,8 +12,6 @@ use Rattle.rows.specs.Rows.{first_of, NoneApplies}
 use Rattle.rows.proofs.Laws.{decided, first_or_none, noted, noted_is}
 use Rattle.route_entry.specs.Route.{unknown}
 use Rattle.route_entry.specs.declared.Route.{Route}
-use Rattle.route.specs.declared.Chosen.{Chosen}
-use Rattle.route.specs.declared.Chosen.TheVariants.{Found, Nothing}
 use Rattle.written.specs.declared.Block.{Block}
 use Rattle.forwarding.specs.Code.{code_no_space, codes}
 use Rattle.response.specs.Fill.{block_of, ends_trace}
@@ -29,6 +27,7 @@ use Rattle.engine.proofs.Laws.{drop_changes_nothing, taken_is_sent}
 use Rattle.sending.proofs.Laws.{sent-answer}
 use Rattle.demands.specs.Engine.{Engine, Call, run, message, header, chosen, here, view, mtu_by, room, rows, Demand1, BlockOf, ends, replied, passed_on, Demand2, EngineMeets}
 use Rattle.format.specs.Sizes.{ipv4, room_of}
+use Rattle.std.specs.Prelude.{Option, Some, None}
 
 -- the block is one, and it is the product's
 pub block_is : (c : Call) (b : Block) → BlockOf c b → b ≡ block_of (view c)
@@ -43,10 +42,10 @@ product_block c =
     record { time = refl; outgoing = refl; output = refl; threshold = refl; code = noted (codes (view c)); filled = refl }
 
 -- the room that is demanded is the one that the step asks for
-link_is : (c : Call) (w : Chosen) → (link_of (incoming_for ipv4 c.sheet w) (here c)).mtu ≡ mtu_by c w
+link_is : (c : Call) (w : Option Route) → (link_of (incoming_for ipv4 c.sheet w) (here c)).mtu ≡ mtu_by c w
 unfolding incoming_for
-link_is c Nothing = refl
-link_is c (Found r) = ⊎_elim (λ e. rw e) (λ e. rw e) (decided (eqb r.incoming unknown))
+link_is c None = refl
+link_is c (Some r) = ⊎_elim (λ e. rw e) (λ e. rw e) (decided (eqb r.incoming unknown))
 
 pub room_is : (c : Call) → room_for ipv4 c.arrival c.sheet ≡ room c
 unfolding room_with
@@ -69,7 +68,7 @@ module _ (c : Call) where
       unfolding sent_by longer_answer longer_message ends_trace view_with recent_after
       went_home e = rw (block_is c b k) (taken ∙ rw (room_is c, le-ltb (room c) (length (message c) + standard_size) fits, e))
 
-      went_on : (r : Route) → ends c ≡ false → chosen c ≡ Found r → done ≡ passed_on c r (set (message c) 0 request ++ block_bytes b)
+      went_on : (r : Route) → ends c ≡ false → chosen c ≡ Some r → done ≡ passed_on c r (set (message c) 0 request ++ block_bytes b)
       unfolding sent_by longer_answer longer_message ends_trace view_with recent_after
       went_on r e f = rw (block_is c b k) (taken ∙ rw (room_is c, le-ltb (room c) (length (message c) + standard_size) fits, e, f))
 
@@ -91,10 +90,10 @@ module _ (c : Call) (o o' : Outcome) (d : Demand1 c o × Demand2 c o) (d' : Dema
   abbrev b : Block
   b = block_of (view c)
 
-  by_route : NoneApplies (rows c) → HasRoom ipv4 (room c) (message c) → ends c ≡ false → (w : Chosen) → chosen c ≡ w → o ≡ o'
-  by_route none room e Nothing q =
+  by_route : NoneApplies (rows c) → HasRoom ipv4 (room c) (message c) → ends c ≡ false → (w : Option Route) → chosen c ≡ w → o ≡ o'
+  by_route none room e None q =
       let z : ◌≡◌ {A = Bool} true false = sym (rw q) ∙ e in let y : ◌≡◌ {A = ℕ} 0 1 = cc in absurd (omega arith)
-  by_route none room e (Found r) q =
+  by_route none room e (Some r) q =
       d.1.on b r none room (product_block c) e q ∙ sym (d'.1.on b r none room (product_block c) e q)
 
   by_end : NoneApplies (rows c) → HasRoom ipv4 (room c) (message c) → (t : Bool) → ends c ≡ t → o ≡ o'

@@ -1,6 +1,6 @@
 -- Demands 1 and 2 of document 01, with the room of document 02 (M-102), of ANY engine: which calls it drops and by which number,
 -- and what it answers to all others, byte for byte.
-use Rattle.std.specs.Prelude.{ℕ, ◌+◌, Bool, true, false, cond, List, ◌++◌, ◌⊎◌, ◌≡◌, eqb, length, set}
+use Rattle.std.specs.Prelude.{ℕ, ◌+◌, Bool, true, false, cond, List, ◌++◌, ◌⊎◌, ◌≡◌, eqb, length, set, Option, Some, None}
 use Rattle.rows.specs.Rows.{Row, NoneApplies, IsFirst, Noted}
 use Rattle.wire.specs.Parts.{splice}
 use Rattle.recent.specs.Entries.{entered_in}
@@ -8,8 +8,6 @@ use Rattle.interface.specs.declared.Interface.{Interface}
 use Rattle.route_entry.specs.Route.{unknown}
 use Rattle.route_entry.specs.declared.Route.{Route}
 use Rattle.tables.specs.Tables.{interface_of, prohibited_of}
-use Rattle.route.specs.declared.Chosen.{Chosen}
-use Rattle.route.specs.declared.Chosen.TheVariants.{Found, Nothing}
 use Rattle.written.specs.declared.Block.{Block}
 use Rattle.written.specs.declared.Note.{Note}
 use Rattle.forwarding.specs.declared.View.{View}
@@ -55,7 +53,7 @@ module _ (c : Call) where
   abbrev pub header : Header
   header = header_of message
 
-  abbrev pub chosen : Chosen
+  abbrev pub chosen : Option Route
   chosen = route_for ipv4 c.sheet header
 
   abbrev pub here : Interface
@@ -65,9 +63,9 @@ module _ (c : Call) where
   view = view_of ipv4 c.arrival c.time c.sheet
 
   -- the MTU that counts with a route: that of its incoming interface, or of the receiving one where there is no route or that is unknown
-  abbrev pub mtu_by : Chosen → ℕ
-  mtu_by Nothing = here.mtu
-  mtu_by (Found r) = cond (eqb r.incoming unknown) here.mtu (interface_of ipv4 c.sheet r.incoming).mtu
+  abbrev pub mtu_by : Option Route → ℕ
+  mtu_by None = here.mtu
+  mtu_by (Some r) = cond (eqb r.incoming unknown) here.mtu (interface_of ipv4 c.sheet r.incoming).mtu
 
   -- the room on the link: the smaller of 1472 and that MTU less 28
   abbrev pub room : ℕ
@@ -115,7 +113,7 @@ module _ (c : Call) where
   abbrev pub passed_on : Route → List ℕ → Outcome
   passed_on r m =
       sending sent_on m
-      (record { length = length m; destination = upstream_of r; port = mtrace_port; interface = r.incoming; source = address_of (incoming_for ipv4 c.sheet (Found r)) })
+      (record { length = length m; destination = upstream_of r; port = mtrace_port; interface = r.incoming; source = address_of (incoming_for ipv4 c.sheet (Some r)) })
 
 -- 2. What no row applies to is answered so
 pub record Demand2 (c : Call) (o : Outcome) : Type 0 where
@@ -126,7 +124,7 @@ pub record Demand2 (c : Call) (o : Outcome) : Type 0 where
   pub home : (b : Block) → NoneApplies (rows c) → HasRoom ipv4 (room c) (message c) → BlockOf c b → ends c ≡ true
       → o ≡ replied c (set (message c) 0 reply ++ block_bytes b)
   -- room, and it goes on: a Request, the message with type 2 and this router's block behind it
-  pub on : (b : Block) (r : Route) → NoneApplies (rows c) → HasRoom ipv4 (room c) (message c) → BlockOf c b → ends c ≡ false → chosen c ≡ Found r
+  pub on : (b : Block) (r : Route) → NoneApplies (rows c) → HasRoom ipv4 (room c) (message c) → BlockOf c b → ends c ≡ false → chosen c ≡ Some r
       → o ≡ passed_on c r (set (message c) 0 request ++ block_bytes b)
 
 -- an engine meets both in every call

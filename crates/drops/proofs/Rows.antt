@@ -7,11 +7,8 @@ use lib.Dec.{eqb}
 use borrow.Author.Tests.{eq-eqb, ne_eqb}
 use Rattle.address.specs.Addresses.{link_scoped}
 use Rattle.sheet.specs.declared.Layout.{Layout}
-use Rattle.tables.specs.declared.Holding.{Holding}
-use Rattle.tables.specs.declared.Holding.TheVariants.{At, Nowhere}
 use Rattle.sheet.specs.Sheet.{layout_of}
 use Rattle.tables.specs.Tables.{interface_of, routes_of, holder_of}
-use Rattle.route.specs.declared.Chosen.{Chosen}
 use Rattle.route.specs.Choice.{which_route}
 use Rattle.last_hop.specs.LastHop.{proper_last_hop}
 use Rattle.header.specs.declared.Header.{Header}
@@ -32,6 +29,8 @@ use Rattle.drops.specs.Drop.{drop_last_hop, is_held, lending_rows, delivery_rows
 use Rattle.drops.specs.Inside.{sheet_rows, drop_verdict, pass_verdict, routed_of, judged_of}
 use Rattle.format.specs.declared.Format.{Format}
 use Rattle.format.specs.Sizes.{Sound}
+use Rattle.std.specs.Prelude.{Option, Some, None}
+use Rattle.route_entry.specs.declared.Route.{Route}
 
 -- only a Query is looked for in the recent list
 pub seen_no_query : (h : Header) (x : Bool) → (h.kind ≡ query → ⊥) → false ≡ (is_query h && x)
@@ -61,10 +60,10 @@ asked proper h destination = rw (asked_flag (is_query h) (link_scoped destinatio
 
 module _ {F : Format} (sound : Sound F) where
   -- an interface holds the address, or none does
-  pub held_at : (s : List ℕ) (address i : ℕ) (found : Holding) → found ≡ holder_of F s address → found ≡ At i → true ≡ is_held (holder_of F s address)
+  pub held_at : (s : List ℕ) (address i : ℕ) (found : Option ℕ) → found ≡ holder_of F s address → found ≡ Some i → true ≡ is_held (holder_of F s address)
   held_at s address i found e f = rw (← e, f)
 
-  pub held_not : (s : List ℕ) (address : ℕ) (found : Holding) → found ≡ holder_of F s address → found ≡ Nowhere → false ≡ is_held (holder_of F s address)
+  pub held_not : (s : List ℕ) (address : ℕ) (found : Option ℕ) → found ≡ holder_of F s address → found ≡ None → false ≡ is_held (holder_of F s address)
   held_not s address found e f = rw (← e, f)
 
   -- the number of interfaces that the check told
@@ -84,7 +83,7 @@ module _ {F : Format} (sound : Sound F) where
     unfolding routed_of
     routed-dropped v some e = e ∙ sym (given_by drop_verdict (pass_verdict F h b s) came late n delivery some)
 
-    module _ (none : n ≡ 0) (c : Chosen) (chosen : c ≡ which_route (routes_of F s) h.source h.group) (p : Bool)
+    module _ (none : n ≡ 0) (c : Option Route) (chosen : c ≡ which_route (routes_of F s) h.source h.group) (p : Bool)
         (hop : p ≡ (is_query h && proper_last_hop (interface_of F s) (layout_of F s).interfaces c h.client)) (k : ℕ)
         (row : k ≡ first_of (route_rows p h destination)) where
       is_route : c ≡ route_for F s h
@@ -93,7 +92,7 @@ module _ {F : Format} (sound : Sound F) where
 
       is_hop : p ≡ (is_query h && last_hop_for F s h)
       unfolding last_hop_for
-      is_hop = hop ∙ ap (λ (w : Chosen). is_query h && proper_last_hop (interface_of F s) (layout_of F s).interfaces w h.client) is_route
+      is_hop = hop ∙ ap (λ (w : Option Route). is_query h && proper_last_hop (interface_of F s) (layout_of F s).interfaces w h.client) is_route
 
       late_row : k ≡ first_of late
       late_row =

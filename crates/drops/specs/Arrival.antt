@@ -1,13 +1,13 @@
 -- What arrives at a router, the route for it, and whether this is its proper last hop.
-use Rattle.std.specs.Prelude.{ℕ, Bool, List, eqb}
+use Rattle.std.specs.Prelude.{ℕ, Bool, List, eqb, Option}
 use Rattle.sheet.specs.Sheet.{layout_of}
 use Rattle.tables.specs.Tables.{interface_of, routes_of}
 use Rattle.route.specs.Choice.{which_route}
 use Rattle.last_hop.specs.LastHop.{proper_last_hop}
-use Rattle.route.specs.declared.Chosen.{Chosen}
 use Rattle.header.specs.declared.Header.{Header}
 use Rattle.header.specs.Format.{query, request}
 use Rattle.format.specs.declared.Format.{Format}
+use Rattle.route_entry.specs.declared.Route.{Route}
 
 -- a message, and what the host tells of it: its destination, the number of the receiving interface, the TTL
 pub record Arrival : Type 0 where
@@ -27,7 +27,7 @@ abbrev pub is_request : Header → Bool
 is_request h = eqb h.kind request
 
 -- the route for a message
-unfoldable pub route_for : Format → List ℕ → Header → Chosen
+unfoldable pub route_for : Format → List ℕ → Header → Option Route
 route_for F sheet h = which_route (routes_of F sheet) h.source h.group
 
 -- this router is the proper last hop for its client

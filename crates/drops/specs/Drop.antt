@@ -1,13 +1,11 @@
 -- The drop table (document 01, "Drop numbers"): one list of rows in the order tried, of which the first that applies drops what
 -- arrives.
-use Rattle.std.specs.Prelude.{ℕ, Bool, true, false, not, ◌&&◌, ◌||◌, List, [], ◌∷◌, ◌++◌, leb, ltb, eqb}
+use Rattle.std.specs.Prelude.{ℕ, Bool, true, false, not, ◌&&◌, ◌||◌, List, [], ◌∷◌, ◌++◌, leb, ltb, eqb, Option, Some, None}
 use Rattle.rows.specs.Rows.{Row, row, first_of}
 use Rattle.address.specs.Addresses.{link_scoped}
 use Rattle.recent.specs.Layout.{well_formed}
 use Rattle.recent.specs.Entries.{seen_in}
 use Rattle.sheet.specs.declared.Layout.{Layout}
-use Rattle.tables.specs.declared.Holding.{Holding}
-use Rattle.tables.specs.declared.Holding.TheVariants.{At, Nowhere}
 use Rattle.sheet.specs.Sheet.{layout_of}
 use Rattle.tables.specs.Tables.{holder_of}
 use Rattle.header.specs.declared.Header.{Header}
@@ -56,9 +54,9 @@ abbrev pub near_ttl : ℕ
 near_ttl = 255
 
 -- an interface holds the address
-abbrev pub is_held : Holding → Bool
-is_held (At i) = true
-is_held Nowhere = false
+abbrev pub is_held : Option ℕ → Bool
+is_held (Some i) = true
+is_held None = false
 
 -- what the host lends with the call
 unfoldable pub lending_rows : ℕ → ℕ → List ℕ → Layout → ℕ → List Row

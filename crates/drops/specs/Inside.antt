@@ -1,10 +1,9 @@
 -- Inside: what only the contracts of inner functions cite, here and in the crates above. No entry's promise rests on it, and a reader of the definitions may pass it over.
 -- Here: the verdict on what arrives: the drop number, and for an accepted message all that was found out on the way.
-use Rattle.std.specs.Prelude.{ℕ, false, ◌&&◌, List, [], ◌++◌, take, drop}
+use Rattle.std.specs.Prelude.{ℕ, false, ◌&&◌, List, [], ◌++◌, take, drop, None}
 use Rattle.rows.specs.Rows.{Row, by_first}
 use Rattle.sheet.specs.declared.Layout.{Layout}
 use Rattle.sheet.specs.Sheet.{no_layout}
-use Rattle.route.specs.declared.Chosen.TheVariants.{Nothing}
 use Rattle.header.specs.declared.Header.{Header}
 use Rattle.message.specs.declared.Blocks.{Blocks}
 use Rattle.header.specs.Format.{note_size}
@@ -27,7 +26,7 @@ sheet_rows layout receiving = drop 2 (lending_rows 0 0 [] layout receiving)
 -- a drop: its number, and nothing else
 unfoldable pub drop_verdict : ℕ → Verdict
 drop_verdict number =
-    record { number = number; header = no_header; blocks = no_blocks; chosen = Nothing; proper = false }
+    record { number = number; header = no_header; blocks = no_blocks; chosen = None; proper = false }
 
 -- number 0: the header and the blocks of the message, the route for it, and whether this is a Query's proper last hop
 unfoldable pub pass_verdict : Format → Header → Blocks → List ℕ → Verdict

@@ -17,7 +17,7 @@ ghost use Rattle.drops.specs.Inside.{lent_rows, sheet_rows, drop_verdict, routed
 use format::Format;
 use header::Header;
 use message::Blocks;
-use route::Chosen;
+use route_entry::Route;
 use sheet::Layout;
 
 // The TTL with which a Request comes from a neighbour.
@@ -48,7 +48,7 @@ pub struct Verdict {
     pub number: u32,
     pub header: Header,
     pub blocks: Blocks,
-    pub chosen: Chosen,
+    pub chosen: Option<Route>,
     pub proper: bool,
 }
 
@@ -86,8 +86,8 @@ fn is_held(f: Format, sheet: &[u8], interfaces: usize, address: u32) -> bool
 {
     let found = tables::holder(f, sheet, interfaces, address);
     match found {
-        tables::Holding::At(_) => true,
-        tables::Holding::Nowhere => false,
+        Some(_) => true,
+        None => false,
     }
 }
 
@@ -112,7 +112,7 @@ fn is_seen(recent: &[u8], h: Header) -> bool
 }
 
 // Whether this is the proper last hop for a Query, by the route chosen. Nothing is asked of a Request.
-fn is_proper(f: Format, sheet: &[u8], layout: Layout, chosen: Chosen, h: Header) -> bool
+fn is_proper(f: Format, sheet: &[u8], layout: Layout, chosen: Option<Route>, h: Header) -> bool
     requires sound { Sound f }
     requires layout_value { layout ≡ layout_of f sheet.now }
     ensures { result ≡ (is_query h && proper_last_hop (interface_of f sheet.now) (layout_of f sheet.now).interfaces chosen h.client) }
@@ -184,7 +184,7 @@ fn dropped(number: u32) -> Verdict
             count: 0,
             last: 0,
         },
-        chosen: Chosen::Nothing,
+        chosen: None,
         proper: false,
     }
 }

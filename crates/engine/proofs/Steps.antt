@@ -16,11 +16,7 @@ use Rattle.tables.specs.Tables.{interface_of, prohibited_of}
 use Rattle.interface.proofs.Laws.{mtu_least}
 use Rattle.sheet.proofs.Laws.{interface_few}
 use Rattle.tables.proofs.Laws.{interface_keeps}
-use Rattle.route.specs.declared.Chosen.{Chosen}
-use Rattle.route.specs.declared.Chosen.TheVariants.{Found, Nothing}
 use Rattle.route.proofs.Laws.{chosen_kept}
-use Rattle.forwarding.specs.declared.Incoming.{Incoming}
-use Rattle.forwarding.specs.declared.Incoming.TheVariants.{Known, Unknown}
 use Rattle.route_entry.specs.Route.{unknown}
 use Rattle.rows.proofs.Laws.{cond_cases}
 use Rattle.forwarding.specs.declared.View.{View}
@@ -48,6 +44,8 @@ use Rattle.drops.proofs.Laws.{Taken, taken, lent_first, lent_none, lent_formed, 
 use Rattle.format.specs.declared.Format.{Format}
 use Rattle.format.specs.Sizes.{Sound, room_of, least_room}
 use Rattle.view.specs.Room.{link_of, room_with, room_for}
+use Rattle.std.specs.Prelude.{Option, Some, None}
+use Rattle.route_entry.specs.declared.Route.{Route}
 
 module _ {F : Format} (sound : Sound F) where
   -- the test for room, by the MTU of the link in view
@@ -121,32 +119,32 @@ module _ {F : Format} (sound : Sound F) where
 
   -- the route for a message names an interface of the sheet, and its length fits
   module _ (s : List ℕ) (h : Header) where
-    route_there : (w : Chosen) → route_for F s h ≡ w → RouteThere (layout_of F s).interfaces w
+    route_there : (w : Option Route) → route_for F s h ≡ w → RouteThere (layout_of F s).interfaces w
     unfolding route_for
-    route_there Nothing e = tt
-    route_there (Found r) e =
+    route_there None e = tt
+    route_there (Some r) e =
         λ other. ⊎_elim (λ p. p) (λ q. absurd (other q)) (chosen_kept sound s h.source h.group r e).incoming
 
-    route_fits : (w : Chosen) → route_for F s h ≡ w → RouteFits w
+    route_fits : (w : Option Route) → route_for F s h ≡ w → RouteFits w
     unfolding route_for
-    route_fits Nothing e = tt
-    route_fits (Found r) e = (chosen_kept sound s h.source h.group r e).short
+    route_fits None e = tt
+    route_fits (Some r) e = (chosen_kept sound s h.source h.group r e).short
 
   -- every link of a valid sheet has the least MTU or more, and so the least room
   module _ (s : List ℕ) (receiving : ℕ) (receives : receiving < (layout_of F s).interfaces) where
     mtu_kept : (i : ℕ) → i < (layout_of F s).interfaces → F.mtu ≤ (interface_of F s i).mtu
     mtu_kept i there = mtu_least F (interface_of F s i) (interface_keeps sound s i there)
 
-    link_least : (chosen : Chosen) → RouteThere (layout_of F s).interfaces chosen
+    link_least : (chosen : Option Route) → RouteThere (layout_of F s).interfaces chosen
         → F.mtu ≤ (link_of (incoming_for F s chosen) (interface_of F s receiving)).mtu
     unfolding incoming_for
-    link_least Nothing there = mtu_kept receiving receives
-    link_least (Found r) there =
-        cond_cases (λ (i : Incoming). F.mtu ≤ (link_of i (interface_of F s receiving)).mtu) (eqb r.incoming unknown) Unknown (Known (interface_of F s r.incoming))
+    link_least None there = mtu_kept receiving receives
+    link_least (Some r) there =
+        cond_cases (λ (i : Option Interface). F.mtu ≤ (link_of i (interface_of F s receiving)).mtu) (eqb r.incoming unknown) None (Some (interface_of F s r.incoming))
         (λ e. mtu_kept receiving receives)
         (λ e. mtu_kept r.incoming (there (eqb-false r.incoming unknown e)))
 
-    room-least : (chosen : Chosen) → RouteThere (layout_of F s).interfaces chosen → least_room F ≤ room_with F s chosen receiving
+    room-least : (chosen : Option Route) → RouteThere (layout_of F s).interfaces chosen → least_room F ≤ room_with F s chosen receiving
     unfolding room_with
     room-least chosen there = omega (arith, link_least chosen there)
 
@@ -185,17 +183,17 @@ module _ {F : Format} (sound : Sound F) where
         }
 
   -- whether this is the proper last hop is asked of Queries alone
-  asked_view : (m : List ℕ) (query proper : Bool) (chosen : Chosen) (incoming : Incoming) (prohibited : Bool) (number : ℕ) (here : Interface) (group time : ℕ)
+  asked_view : (m : List ℕ) (query proper : Bool) (chosen : Option Route) (incoming : Option Interface) (prohibited : Bool) (number : ℕ) (here : Interface) (group time : ℕ)
       → longer_answer F m
       (record { query = query; proper = query && proper; chosen = chosen; incoming = incoming; prohibited = prohibited; number = number; here = here; group = group; time = time })
       ≡ longer_answer F m
       (record { query = query; proper = proper; chosen = chosen; incoming = incoming; prohibited = prohibited; number = number; here = here; group = group; time = time })
   unfolding longer_answer block_of codes ends_trace
   asked_view m true proper chosen incoming prohibited number here group time = refl
-  asked_view m false proper Nothing incoming prohibited number here group time = refl
-  asked_view m false proper (Found r) incoming prohibited number here group time = refl
+  asked_view m false proper None incoming prohibited number here group time = refl
+  asked_view m false proper (Some r) incoming prohibited number here group time = refl
 
-  asked : (m s : List ℕ) (h : Header) (chosen : Chosen) (proper : Bool) (receiving time : ℕ)
+  asked : (m s : List ℕ) (h : Header) (chosen : Option Route) (proper : Bool) (receiving time : ℕ)
       → longer_answer F m (view_with F s h chosen (is_query h && proper) receiving time) ≡ longer_answer F m (view_with F s h chosen proper receiving time)
   unfolding view_with
   asked m s h chosen proper receiving time =

@@ -1,12 +1,10 @@
 -- The forwarding code: one list of rows in the order in which codes are noted, of which the first that applies is shown.
-use Rattle.std.specs.Prelude.{ℕ, Bool, true, false, not, ◌&&◌, ◌||◌, List, [], ◌∷◌, eqb}
+use Rattle.std.specs.Prelude.{ℕ, Bool, true, false, not, ◌&&◌, ◌||◌, List, [], ◌∷◌, eqb, Option, Some, None}
 use Rattle.rows.specs.Rows.{Row, row, by_first}
 use Rattle.address.specs.Addresses.{first_octet}
 use Rattle.route_entry.specs.declared.Route.{Route}
 use Rattle.interface.specs.Interface.{is_multicast, is_boundary}
 use Rattle.route_entry.specs.Route.{is_rp, prune_sent, in_map}
-use Rattle.route.specs.declared.Chosen.{Chosen}
-use Rattle.route.specs.declared.Chosen.TheVariants.{Found, Nothing}
 use Rattle.forwarding.specs.declared.View.{View}
 use Rattle.forwarding.specs.View.{boundary_on}
 
@@ -63,17 +61,17 @@ abbrev pub scoped : View → Bool
 scoped v = eqb (first_octet v.group) scoped_octet && (is_boundary v.here || boundary_on v.incoming)
 
 -- there is no route
-abbrev pub missing : Chosen → Bool
-missing Nothing = true
-missing (Found r) = false
+abbrev pub missing : Option Route → Bool
+missing None = true
+missing (Some r) = false
 
 -- there is one, and it passes a test
-abbrev pub of_route : Chosen → (Route → Bool) → Bool
-of_route Nothing test = false
-of_route (Found r) test = test r
+abbrev pub of_route : Option Route → (Route → Bool) → Bool
+of_route None test = false
+of_route (Some r) test = test r
 
 -- each code with its test, by the route chosen; all after NO_ROUTE need a route
-abbrev pub codes_for : View → Chosen → List Row
+abbrev pub codes_for : View → Option Route → List Row
 codes_for v chosen =
     row code_wrong_last_hop (wrong_last_hop v)
     ∷ row code_reached_rp (of_route chosen is_rp)

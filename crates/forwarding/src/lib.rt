@@ -3,14 +3,12 @@
 
 ghost use Rattle.std.specs.Prelude.{◌≡◌, ◌<◌};
 ghost use Rattle.interface.specs.Interface.{most_interfaces};
-ghost use Rattle.route.specs.declared.Chosen.TheVariants.{Found};
 ghost use Rattle.forwarding.specs.View.{boundary_on};
 ghost use Rattle.rows.specs.Rows.{first_of};
 ghost use Rattle.forwarding.specs.Code.{scoped, codes_for, code_of};
 ghost use Rattle.forwarding.specs.Inside.{late_codes};
 
 use interface::Interface;
-use route::Chosen;
 use route_entry::Route;
 
 // The forwarding codes.
@@ -43,20 +41,13 @@ pub const CODE_NO_SPACE: u8 = 129;
 // The first octet of the groups that a boundary keeps in: 239.0.0.0/8.
 const SCOPED_OCTET: u32 = 239;
 
-// The incoming interface of the route chosen, where it is known.
-#[derive(Clone, Copy)]
-pub enum Incoming {
-    Known(Interface),
-    Unknown,
-}
-
 // What a router looks at when it answers a message that it has accepted.
 #[derive(Clone, Copy)]
 pub struct View {
     pub query: bool,
     pub proper: bool,
-    pub chosen: Chosen,
-    pub incoming: Incoming,
+    pub chosen: Option<Route>,
+    pub incoming: Option<Interface>,
     pub prohibited: bool,
     pub number: u32,
     pub here: Interface,
@@ -64,12 +55,12 @@ pub struct View {
     pub time: u32,
 }
 
-fn boundary_on(i: Incoming) -> bool
+fn boundary_on(i: Option<Interface>) -> bool
     ensures { result ≡ boundary_on i }
 {
     match i {
-        Incoming::Known(i) => interface::is_boundary(i),
-        Incoming::Unknown => false,
+        Some(i) => interface::is_boundary(i),
+        None => false,
     }
 }
 
@@ -106,7 +97,7 @@ fn late_code(scoped: bool, r: Route, number: usize) -> u8
 // The first code that applies, where a route was chosen.
 fn code_on(v: View, r: Route) -> u8
     requires { v.number < most_interfaces }
-    ensures { result ≡ first_of (codes_for v (Found r)) }
+    ensures { result ≡ first_of (codes_for v (Some r)) }
 {
     if v.query & !v.proper {
         return CODE_WRONG_LAST_HOP;
@@ -137,8 +128,8 @@ pub fn code_of(v: View) -> u8
 {
     let chosen = v.chosen;
     match chosen {
-        Chosen::Found(r) => code_on(v, r),
-        Chosen::Nothing => {
+        Some(r) => code_on(v, r),
+        None => {
             if v.query & !v.proper {
                 return CODE_WRONG_LAST_HOP;
             }

@@ -23,23 +23,22 @@ use Rattle.sheet.specs.Sheet.{layout_of}
 use Rattle.tables.specs.Tables.{interface_of}
 use Rattle.sheet.proofs.Laws.{interface_few}
 use Rattle.tables.proofs.Laws.{interface_keeps}
-use Rattle.route.specs.declared.Chosen.{Chosen}
-use Rattle.route.specs.declared.Chosen.TheVariants.{Found, Nothing}
 use Rattle.last_hop.specs.Inside.{reaches_by}
 use Rattle.last_hop.specs.LastHop.{reaches, some_reaches, proper_last_hop}
+use Rattle.std.specs.Prelude.{Option, Some, None}
 
 -- the proper last hop, by the route chosen
-module _ (interface : ℕ → Interface) (n : ℕ) (chosen : Chosen) (client : ℕ) where
-  pub hop_rp : (r : Route) (x : Bool) → chosen ≡ Found r → x ≡ is_rp r → x ≡ true → true ≡ proper_last_hop interface n chosen client
+module _ (interface : ℕ → Interface) (n : ℕ) (chosen : Option Route) (client : ℕ) where
+  pub hop_rp : (r : Route) (x : Bool) → chosen ≡ Some r → x ≡ is_rp r → x ≡ true → true ≡ proper_last_hop interface n chosen client
   unfolding proper_last_hop
   hop_rp r x found e rp = rw (found, ← e, rp)
 
-  pub hop_reached : (r : Route) (x y : Bool) → chosen ≡ Found r → x ≡ is_rp r → x ≡ false → y ≡ some_reaches interface r client n
+  pub hop_reached : (r : Route) (x y : Bool) → chosen ≡ Some r → x ≡ is_rp r → x ≡ false → y ≡ some_reaches interface r client n
       → y ≡ proper_last_hop interface n chosen client
   unfolding proper_last_hop
   hop_reached r x y found e rp q = rw (found, ← e, rp) q
 
-  pub hop_none : chosen ≡ Nothing → false ≡ proper_last_hop interface n chosen client
+  pub hop_none : chosen ≡ None → false ≡ proper_last_hop interface n chosen client
   unfolding proper_last_hop
   hop_none none = rw none
 

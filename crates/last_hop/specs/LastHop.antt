@@ -1,13 +1,11 @@
 -- The proper last hop: a route is found, and it is RP, or some multicast interface in its would-forward map has the client
 -- in its subnet.
-use Rattle.std.specs.Prelude.{ℕ, zero, suc, Bool, true, false, ◌&&◌, ◌||◌, cond}
+use Rattle.std.specs.Prelude.{ℕ, zero, suc, Bool, true, false, ◌&&◌, ◌||◌, cond, Option, Some, None}
 use Rattle.prefix.specs.Prefix.{same_prefix}
 use Rattle.interface.specs.Interface.{is_multicast}
 use Rattle.route_entry.specs.Route.{is_rp, in_map}
 use Rattle.interface.specs.declared.Interface.{Interface}
 use Rattle.route_entry.specs.declared.Route.{Route}
-use Rattle.route.specs.declared.Chosen.{Chosen}
-use Rattle.route.specs.declared.Chosen.TheVariants.{Found, Nothing}
 
 -- interface k is multicast, in the would-forward map, and has the client in its subnet
 unfoldable pub reaches : Route → ℕ → ℕ → Interface → Bool
@@ -19,6 +17,6 @@ some_reaches interface r client zero = false
 some_reaches interface r client (suc n) = cond (reaches r client n (interface n)) true (some_reaches interface r client n)
 
 -- by the route chosen, where the router has so many interfaces
-unfoldable pub proper_last_hop : (ℕ → Interface) → ℕ → Chosen → ℕ → Bool
-proper_last_hop interface n Nothing client = false
-proper_last_hop interface n (Found r) client = is_rp r || some_reaches interface r client n
+unfoldable pub proper_last_hop : (ℕ → Interface) → ℕ → Option Route → ℕ → Bool
+proper_last_hop interface n None client = false
+proper_last_hop interface n (Some r) client = is_rp r || some_reaches interface r client n

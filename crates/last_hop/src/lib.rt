@@ -9,7 +9,6 @@ ghost use Rattle.last_hop.specs.LastHop.{some_reaches, proper_last_hop};
 ghost use Rattle.last_hop.specs.Inside.{reaches_by};
 
 use format::Format;
-use route::Chosen;
 use route_entry::Route;
 use sheet::Layout;
 
@@ -47,18 +46,18 @@ fn some_reaches(f: Format, s: &[u8], l: Layout, r: Route, client: u32) -> bool
 }
 
 // Whether a router with a valid sheet is the proper last hop for a client, by the route chosen.
-pub fn last_hop(f: Format, s: &[u8], l: Layout, c: Chosen, client: u32) -> bool
+pub fn last_hop(f: Format, s: &[u8], l: Layout, c: Option<Route>, client: u32) -> bool
     requires sound { Sound f }
     requires l_value { l ≡ layout_of f s.now }
     ensures { result ≡ proper_last_hop (interface_of f s.now) (layout_of f s.now).interfaces c client }
 {
     match c {
-        Chosen::Found(r) => {
+        Some(r) => {
             if route_entry::is_rp(r) {
                 return true;
             }
             some_reaches(f, s, l, r, client)
         }
-        Chosen::Nothing => false,
+        None => false,
     }
 }

@@ -8,35 +8,34 @@ use Rattle.rows.proofs.Laws.{cond_cases}
 use Rattle.prefix.specs.Prefix.{address_bits}
 use Rattle.route_entry.specs.Route.{is_rp, group_only}
 use Rattle.route_entry.specs.declared.Route.{Route}
-use Rattle.route.specs.declared.Chosen.{Chosen}
-use Rattle.route.specs.declared.Chosen.TheVariants.{Found, Nothing}
 use Rattle.forwarding.specs.declared.View.{View}
 use Rattle.written.specs.declared.Filled.{Filled}
 use Rattle.response.specs.Inside.{RouteFits}
 use Rattle.response.specs.Fill.{no_source_mask, mask_of, s_of, s_bit, s_and_mask, filled_of, unfilled, fill_for, ends_trace}
 use Rattle.response.proofs.Laws.{no_route_ends}
+use Rattle.std.specs.Prelude.{Option, Some, None}
 
-module _ (v : View) (r : Route) (found : v.chosen ≡ Found r) where
+module _ (v : View) (r : Route) (found : v.chosen ≡ Some r) where
   pub ends_found : (rp : Bool) (blocks hops : ℕ) → rp ≡ is_rp r → (v.prohibited || rp || eqb r.upstream 0 || eqb blocks hops) ≡ ends_trace v blocks hops
   unfolding ends_trace
   ends_found rp blocks hops e = rw (e, found)
 
   pub fill_found : (f : Filled) → v.prohibited ≡ false → f ≡ filled_of r v.incoming → f ≡ fill_for v v.chosen
-  fill_found f shut e = e ∙ subst (λ (w : Chosen). filled_of r v.incoming ≡ fill_for v w) (sym found) (rw shut)
+  fill_found f shut e = e ∙ subst (λ (w : Option Route). filled_of r v.incoming ≡ fill_for v w) (sym found) (rw shut)
 
   pub fits_found : RouteFits v.chosen → r.length ≤ address_bits
   fits_found fits = rw found at fits
 
-module _ (v : View) (none : v.chosen ≡ Nothing) where
+module _ (v : View) (none : v.chosen ≡ None) where
   pub ends_none : (blocks hops : ℕ) → true ≡ ends_trace v blocks hops
   ends_none blocks hops = sym (no_route_ends v blocks hops none)
 
   pub fill_none : (f : Filled) → f ≡ unfilled → f ≡ fill_for v v.chosen
   fill_none f e = rw none e
 
-shut_fill : (v : View) (w : Chosen) → v.prohibited ≡ true → unfilled ≡ fill_for v w
-shut_fill v Nothing e = refl
-shut_fill v (Found r) e = rw e
+shut_fill : (v : View) (w : Option Route) → v.prohibited ≡ true → unfilled ≡ fill_for v w
+shut_fill v None e = refl
+shut_fill v (Some r) e = rw e
 
 pub fill_shut : (v : View) (f : Filled) → v.prohibited ≡ true → f ≡ unfilled → f ≡ fill_for v v.chosen
 fill_shut v f e q = q ∙ shut_fill v v.chosen e

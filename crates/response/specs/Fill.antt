@@ -1,17 +1,15 @@
 -- What the block is filled with, and what ends a trace. Neither looks at the other: the code decides nothing.
-use Rattle.std.specs.Prelude.{ℕ, ◌+◌, Bool, true, ◌&&◌, ◌||◌, cond, ltb, eqb}
+use Rattle.std.specs.Prelude.{ℕ, ◌+◌, Bool, true, ◌&&◌, ◌||◌, cond, ltb, eqb, Option, Some, None}
 use Rattle.address.specs.Addresses.{all_ones}
 use Rattle.prefix.specs.Prefix.{address_bits}
 use Rattle.route_entry.specs.Route.{source_and_group, group_only, source_only, is_rp}
 use Rattle.route_entry.specs.declared.Route.{Route}
-use Rattle.route.specs.declared.Chosen.{Chosen}
-use Rattle.route.specs.declared.Chosen.TheVariants.{Found, Nothing}
 use Rattle.forwarding.specs.declared.View.{View}
-use Rattle.forwarding.specs.declared.Incoming.{Incoming}
 use Rattle.written.specs.declared.Filled.{Filled}
 use Rattle.written.specs.declared.Block.{Block}
 use Rattle.forwarding.specs.View.{not_counted, address_of, input_of}
 use Rattle.forwarding.specs.Code.{code_of}
+use Rattle.interface.specs.declared.Interface.{Interface}
 
 -- 224.0.0.2, all routers of the link: where upstream is not known
 abbrev pub all_routers : ℕ
@@ -46,7 +44,7 @@ abbrev pub s_and_mask : Route → ℕ
 s_and_mask r = cond (s_of r) (s_bit + mask_of r) (mask_of r)
 
 -- filled from the route
-unfoldable pub filled_of : Route → Incoming → Filled
+unfoldable pub filled_of : Route → Option Interface → Filled
 filled_of r i =
     record {
       incoming = address_of i;
@@ -63,9 +61,9 @@ abbrev pub unfilled : Filled
 unfilled = record { incoming = 0; upstream = 0; input = 0; total = 0; protocol = 0; multicast = 0; mask = 0 }
 
 -- with no route or with tracing prohibited all these are 0
-abbrev pub fill_for : View → Chosen → Filled
-fill_for v Nothing = unfilled
-fill_for v (Found r) = cond v.prohibited unfilled (filled_of r v.incoming)
+abbrev pub fill_for : View → Option Route → Filled
+fill_for v None = unfilled
+fill_for v (Some r) = cond v.prohibited unfilled (filled_of r v.incoming)
 
 -- the whole block: time, outgoing address, output count and TTL of the receiving interface; the code; the rest as filled
 unfoldable pub block_of : View → Block
@@ -80,9 +78,9 @@ block_of v =
     }
 
 -- a Reply if there is no route, tracing is prohibited, the route is RP, upstream is 0, or the hops used now equal the hops
-abbrev pub ends_for : Bool → ℕ → ℕ → Chosen → Bool
-ends_for prohibited used hops Nothing = true
-ends_for prohibited used hops (Found r) = prohibited || is_rp r || eqb r.upstream 0 || eqb used hops
+abbrev pub ends_for : Bool → ℕ → ℕ → Option Route → Bool
+ends_for prohibited used hops None = true
+ends_for prohibited used hops (Some r) = prohibited || is_rp r || eqb r.upstream 0 || eqb used hops
 
 -- by the route that the router chose
 unfoldable pub ends_trace : View → ℕ → ℕ → Bool

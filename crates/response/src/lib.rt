@@ -5,13 +5,12 @@
 ghost use Rattle.std.specs.Prelude.{◌≡◌, ◌+◌, ◌≤◌, ◌<◌};
 ghost use Rattle.prefix.specs.Prefix.{address_bits};
 ghost use Rattle.interface.specs.Interface.{most_interfaces};
-ghost use Rattle.route.specs.declared.Chosen.TheVariants.{Found};
 ghost use Rattle.forwarding.specs.View.{address_of, input_of};
 ghost use Rattle.response.specs.Fill.{upstream_of, total_of, mask_of, s_and_mask, filled_of, unfilled, fill_for, block_of, ends_trace};
 ghost use Rattle.response.specs.Inside.{RouteFits};
 
-use forwarding::{Incoming, View};
-use route::Chosen;
+use forwarding::View;
+use interface::Interface;
 use route_entry::Route;
 use written::{Block, Filled};
 
@@ -28,21 +27,21 @@ const NO_SOURCE_MASK: u8 = 127;
 const S_BIT: u8 = 128;
 
 // The address of the incoming interface, 0 if unknown.
-pub fn address_of(i: Incoming) -> u32
+pub fn address_of(i: Option<Interface>) -> u32
     ensures { result ≡ address_of i }
 {
     match i {
-        Incoming::Known(i) => i.address,
-        Incoming::Unknown => 0,
+        Some(i) => i.address,
+        None => 0,
     }
 }
 
-fn input_of(i: Incoming) -> u64
+fn input_of(i: Option<Interface>) -> u64
     ensures { result ≡ input_of i }
 {
     match i {
-        Incoming::Known(i) => i.input,
-        Incoming::Unknown => NOT_COUNTED,
+        Some(i) => i.input,
+        None => NOT_COUNTED,
     }
 }
 
@@ -87,7 +86,7 @@ fn s_and_mask(r: Route) -> u8
     mask(r)
 }
 
-fn filled_of(r: Route, i: Incoming) -> Filled
+fn filled_of(r: Route, i: Option<Interface>) -> Filled
     requires { r.length ≤ address_bits }
     ensures { result ≡ filled_of r i }
 {
@@ -125,11 +124,11 @@ fn fill(v: View) -> Filled
     }
     let chosen = v.chosen;
     match chosen {
-        Chosen::Found(r) => {
+        Some(r) => {
             let incoming = v.incoming;
             filled_of(r, incoming)
         }
-        Chosen::Nothing => unfilled(),
+        None => unfilled(),
     }
 }
 
@@ -155,10 +154,10 @@ pub fn ends_trace(v: View, used: u32, hops: u32) -> bool
 {
     let chosen = v.chosen;
     match chosen {
-        Chosen::Found(r) => v.prohibited
+        Some(r) => v.prohibited
             | route_entry::is_rp(r)
             | (r.upstream == 0)
             | (used == hops),
-        Chosen::Nothing => true,
+        None => true,
     }
 }

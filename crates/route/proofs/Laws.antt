@@ -14,11 +14,10 @@ use Rattle.route_rules.proofs.Laws.{RouteKept, route_kept}
 use Rattle.sheet.specs.Sheet.{layout_of}
 use Rattle.tables.specs.Tables.{route_of, routes_of}
 use Rattle.tables.proofs.Laws.{route_keeps}
-use Rattle.route.specs.declared.Chosen.{Chosen}
-use Rattle.route.specs.declared.Chosen.TheVariants.{Found, Nothing}
 use Rattle.route.specs.Choice.{which_route}
 use Rattle.route.specs.Inside.{best_of}
 use Rattle.route.proofs.Turns.{by_rank, chosen_numbered}
+use Rattle.std.specs.Prelude.{Option, Some, None}
 
 -- a route of the sheet, by its number
 record OfSheet (F : Format) (s : List ℕ) (r : Route) : Type 0 where
@@ -26,13 +25,13 @@ record OfSheet (F : Format) (s : List ℕ) (r : Route) : Type 0 where
   there : number < (layout_of F s).routes
   is : r ≡ route_of F s number
 
-module _ {F : Format} (sound : Sound F) (s : List ℕ) (source group : ℕ) (r : Route) (chosen : which_route (routes_of F s) source group ≡ Found r) where
+module _ {F : Format} (sound : Sound F) (s : List ℕ) (source group : ℕ) (r : Route) (chosen : which_route (routes_of F s) source group ≡ Some r) where
   -- the chosen route is one of the sheet's
   chosen_of_sheet : OfSheet F s r
   unfolding route_of
   chosen_of_sheet =
       let b = best_of F s source group (layout_of F s).routes in
-      cond_cases (λ (c : Chosen). c ≡ Found r → OfSheet F s r) (eqb b.rank 0) Nothing (Found (route_at s b.at))
+      cond_cases (λ (c : Option Route). c ≡ Some r → OfSheet F s r) (eqb b.rank 0) None (Some (route_at s b.at))
       (λ e q. let z : ◌≡◌ {A = ℕ} 0 1 = cc in absurd (omega arith))
       (λ e q.
       let n = chosen_numbered sound s source group b refl (eqb-false b.rank 0 e) in

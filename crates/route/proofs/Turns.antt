@@ -24,10 +24,10 @@ use Rattle.tables.specs.Tables.{place_of, route_place, route_of, routes_of}
 use Rattle.tables.specs.Inside.{routes_beside, Beside}
 use Rattle.tables.proofs.Laws.{route_keeps, route_bytes_lem, beside_place}
 use Rattle.route.specs.declared.Best.{Best}
-use Rattle.route.specs.declared.Chosen.TheVariants.{Found, Nothing}
 use Rattle.route.specs.Choice.{serves_group, which_route}
 use Rattle.route.specs.Inside.{as_group, rank_at, better, best_with, best_of}
 use Rattle.route.proofs.Ranks.{first_routes, chosen_by_rank, Numbered, best_numbered}
+use Rattle.std.specs.Prelude.{Some, None}
 
 above : (n : ℕ) → (n ≡ 0 → ⊥) → 0 < n
 above zero f = absurd (f refl)
@@ -113,16 +113,16 @@ module _ {F : Format} (sound : Sound F) (s : List ℕ) (source group : ℕ) wher
       (λ e. kept.whole (eqb-true (route_of F s k).kind group_only (search parts depth 8)), kept.short)
 
   pub by_rank : let b = best_of F s source group (layout_of F s).routes in
-      which_route (routes_of F s) source group ≡ cond (eqb b.rank 0) Nothing (Found (route_at s b.at))
+      which_route (routes_of F s) source group ≡ cond (eqb b.rank 0) None (Some (route_at s b.at))
   unfolding routes_of route_of rank_at
   by_rank =
       rw (listed_first (route_of F s) (layout_of F s).routes)
       (chosen_by_rank (route_at s) (route_place F s) (layout_of F s).routes source group right_routes)
 
   pub chosen_none : (b : Best) → b ≡ best_of F s source group (layout_of F s).routes → b.rank ≡ 0
-      → Nothing ≡ which_route (routes_of F s) source group
+      → None ≡ which_route (routes_of F s) source group
   chosen_none b e z = rw (by_rank, ← e, eq-eqb b.rank 0 z)
 
   pub chosen_some : (b : Best) (r : Route) → b ≡ best_of F s source group (layout_of F s).routes → (b.rank ≡ 0 → ⊥)
-      → r ≡ route_at s b.at → Found r ≡ which_route (routes_of F s) source group
+      → r ≡ route_at s b.at → Some r ≡ which_route (routes_of F s) source group
   chosen_some b r e z f = rw (by_rank, ← e, ne_eqb b.rank 0 z, f)

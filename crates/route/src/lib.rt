@@ -25,13 +25,6 @@ const GROUP_RANK: usize = 34;
 // What kind 1 ranks above.
 const BOTH_RANK: usize = 35;
 
-// The route chosen, if one serves.
-#[derive(Clone, Copy)]
-pub enum Chosen {
-    Found(Route),
-    Nothing,
-}
-
 // The highest rank so far, and where in the sheet the first route that has it begins: two words, with no bytes between to be carried
 // along. The route is read there in the end, and no turn counts routes beside their places.
 #[derive(Drop)]
@@ -153,14 +146,14 @@ fn best_of(f: Format, s: &[u8], l: Layout, source: u32, group: u32) -> Best
 }
 
 // The route of a valid sheet for a source and a group; all ones stands for none of either.
-pub fn choose(f: Format, s: &[u8], l: Layout, source: u32, group: u32) -> Chosen
+pub fn choose(f: Format, s: &[u8], l: Layout, source: u32, group: u32) -> Option<Route>
     requires sound { Sound f }
     requires l_value { l ≡ layout_of f s.now }
     ensures { result ≡ which_route (routes_of f s.now) source group }
 {
     let b = best_of(f, s, l, source, group);
     if b.rank == 0 {
-        return Chosen::Nothing;
+        return None;
     }
-    Chosen::Found(route_entry::route_at(s, b.at))
+    Some(route_entry::route_at(s, b.at))
 }

@@ -2,7 +2,6 @@
 // Command 0 writes a label, 1 changes the sheet, and 2 asks for a source, a group and a client.
 #![tactic(auto)]
 
-use route::Chosen;
 use std::io;
 use std::io::{BufReader, BufWriter, Read, Write};
 
@@ -23,8 +22,8 @@ fn ask(out: &mut impl Write, s: &[u8], source: u32, group: u32, client: u32) -> 
     let chosen = route::choose(format::IPV4, s, l, source, group);
     tape::text(out, b" ->")?;
     match chosen {
-        Chosen::Found(r) => print(out, r)?,
-        Chosen::Nothing => tape::then(out, 0)?,
+        Some(r) => print(out, r)?,
+        None => tape::then(out, 0)?,
     }
     tape::whether(out, last_hop::last_hop(format::IPV4, s, l, chosen, client))?;
     tape::end(out)

@@ -16,16 +16,12 @@ use Rattle.recent.specs.Entries.{empty}
 use Rattle.recent.proofs.Laws.{empty-well_formed}
 use Rattle.route_entry.specs.Route.{unknown, is_rp}
 use Rattle.route_entry.specs.declared.Route.{Route}
-use Rattle.tables.specs.declared.Holding.TheVariants.{At}
 use Rattle.tables.specs.Tables.{interface_of, routes_of, holder_of}
 use Rattle.sheet.proofs.Laws.{valid_told, interface_valid}
 use Rattle.tables.proofs.Laws.{holder_there}
-use Rattle.route.specs.declared.Chosen.{Chosen}
-use Rattle.route.specs.declared.Chosen.TheVariants.{Found, Nothing}
 use Rattle.route.specs.Choice.{which_route}
 use Rattle.route.proofs.Laws.{chosen_kept}
 use Rattle.forwarding.specs.declared.View.{View}
-use Rattle.forwarding.specs.declared.Incoming.{Incoming}
 use Rattle.response.specs.Fill.{all_routers, upstream_of, block_of, ends_trace}
 use Rattle.written.specs.Bytes.{block_bytes}
 use Rattle.header.specs.Format.{query, request, note_size}
@@ -44,6 +40,8 @@ use Rattle.format.specs.declared.Format.{Format}
 use Rattle.format.specs.Sizes.{Sound, output_size, ip_and_udp}
 use Rattle.written.specs.Inside.{Writes}
 use Rattle.view.specs.Room.{room_with, room_for}
+use Rattle.std.specs.Prelude.{Option, Some, None}
+use Rattle.interface.specs.declared.Interface.{Interface}
 
 -- a Request sent on, from what was received
 pub record Grown (F : Format) (a : Arrival) (time : ℕ) (sheet : List ℕ) (s : Sent) : Type 0 where
@@ -59,24 +57,24 @@ pub record Grown (F : Format) (a : Arrival) (time : ℕ) (sheet : List ℕ) (s :
 -- where the trace goes on there is a route, its upstream is not 0, and the type 4 blocks are not as many as the hops
 record Onward (v : View) (blocks hops : ℕ) : Type 0 where
   route : Route
-  chosen : v.chosen ≡ Found route
+  chosen : v.chosen ≡ Some route
   upstream : route.upstream ≡ 0 → ⊥
   fewer : blocks ≡ hops → ⊥
 
 onward : (v : View) (blocks hops : ℕ) → ends_trace v blocks hops ≡ false → Onward v blocks hops
 unfolding ends_trace
 onward v blocks hops e = by_choice v.chosen refl where
-  by_choice : (w : Chosen) → v.chosen ≡ w → Onward v blocks hops
-  by_choice Nothing q = let t : ◌≡◌ {A = Bool} true false = rw q at e in let z : ◌≡◌ {A = ℕ} 0 1 = cc in absurd (omega arith)
-  by_choice (Found r) q =
+  by_choice : (w : Option Route) → v.chosen ≡ w → Onward v blocks hops
+  by_choice None q = let t : ◌≡◌ {A = Bool} true false = rw q at e in let z : ◌≡◌ {A = ℕ} 0 1 = cc in absurd (omega arith)
+  by_choice (Some r) q =
       let p = neither_of (v.prohibited || is_rp r || eqb r.upstream 0) (eqb blocks hops) (rw q at e) in
       let u = neither_of (v.prohibited || is_rp r) (eqb r.upstream 0) p.0 in
       record { route = r; chosen = q; upstream = eqb-false r.upstream 0 u.1; fewer = eqb-false blocks hops p.1 }
 
 -- the record gives the length of what is sent
-noted_on : (c : Chosen) (i : Incoming) (n : ℕ) → (note_on c i n).length ≡ n
-noted_on Nothing i n = refl
-noted_on (Found r) i n = refl
+noted_on : (c : Option Route) (i : Option Interface) (n : ℕ) → (note_on c i n).length ≡ n
+noted_on None i n = refl
+noted_on (Some r) i n = refl
 
 pub sent_noted : (F : Format) (a : Arrival) (time : ℕ) (sheet : List ℕ) → (sent_by F a time sheet).note.length ≡ length (sent_by F a time sheet).message
 sent_noted F a time sheet =
@@ -99,7 +97,7 @@ module _ {F : Format} (sound : Sound F) where
       (accepted_kinds sound m t.message)
 
   -- it goes upstream: to a unicast address, or to 224.0.0.2
-  goes_upstream : (sheet : List ℕ) (source group : ℕ) (r : Route) → which_route (routes_of F sheet) source group ≡ Found r → (r.upstream ≡ 0 → ⊥)
+  goes_upstream : (sheet : List ℕ) (source group : ℕ) (r : Route) → which_route (routes_of F sheet) source group ≡ Some r → (r.upstream ≡ 0 → ⊥)
       → (unicast (upstream_of r) ≡ true) ⊎ (upstream_of r ≡ all_routers)
   goes_upstream sheet source group r chosen some =
       ⊎_elim (λ e. absurd (some e))
@@ -146,7 +144,7 @@ module _ {F : Format} (sound : Sound F) where
         (λ h e. absurd (omega arith)) (λ h e f. absurd (omega arith)) (λ h e f. grown h e)
 
     -- the link on which it goes is the one whose room was asked for: with the IP and UDP headers it does not pass that MTU
-    fits : (r : Route) → route_for F sheet (header_of a.message) ≡ Found r → (r.upstream ≡ 0 → ⊥) → HasRoom F (room_for F a sheet) a.message
+    fits : (r : Route) → route_for F sheet (header_of a.message) ≡ Some r → (r.upstream ≡ 0 → ⊥) → HasRoom F (room_for F a sheet) a.message
         → length a.message + F.block + ip_and_udp ≤ (interface_of F sheet r.incoming).mtu
     unfolding route_for room_with incoming_for
     fits r chosen some room =
@@ -175,7 +173,7 @@ module _ {F : Format} (sound : Sound F) where
 
   -- a Request with fewer blocks than hops, delivered with TTL 255 to the interface that holds its destination, is not dropped
   pub no_later_drop : (m : List ℕ) (destination i : ℕ) (sheet : List ℕ) → Accepted F m → (header_of m).kind ≡ request → standard_count F m < (header_of m).hops
-      → holder_of F sheet destination ≡ At i → NoneApplies (table F (arrival m destination i near_ttl) sheet empty output_size note_size)
+      → holder_of F sheet destination ≡ Some i → NoneApplies (table F (arrival m destination i near_ttl) sheet empty output_size note_size)
   no_later_drop m destination i sheet accepts is-request few held =
       let there = holder_there F sheet destination i held in
       let asked : eqb (header_of m).kind request ≡ true = eq-eqb _ _ is-request in

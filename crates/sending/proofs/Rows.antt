@@ -8,9 +8,6 @@ use lib.ListN.{length, length-set, set}
 use Rattle.wire.specs.Parts.{splice}
 use Rattle.interface.specs.declared.Interface.{Interface}
 use Rattle.route_entry.specs.declared.Route.{Route}
-use Rattle.route.specs.declared.Chosen.{Chosen}
-use Rattle.route.specs.declared.Chosen.TheVariants.{Found, Nothing}
-use Rattle.forwarding.specs.declared.Incoming.{Incoming}
 use Rattle.forwarding.specs.declared.View.{View}
 use Rattle.written.specs.declared.Note.{Note}
 use Rattle.written.specs.declared.Block.{Block}
@@ -28,13 +25,14 @@ use Rattle.message.specs.Room.{hops_used}
 use Rattle.sending.proofs.Sent.{longer-length}
 use Rattle.format.specs.declared.Format.{Format}
 use Rattle.written.specs.Inside.{Writes}
+use Rattle.std.specs.Prelude.{Option, Some, None}
 
 -- the record of a Request sent on, by the route chosen
-pub note_found : (chosen : Chosen) (r : Route) (i : Incoming) (n u a : ℕ) → chosen ≡ Found r → u ≡ upstream_of r → a ≡ address_of i
+pub note_found : (chosen : Option Route) (r : Route) (i : Option Interface) (n u a : ℕ) → chosen ≡ Some r → u ≡ upstream_of r → a ≡ address_of i
     → record { length = n; destination = u; port = mtrace_port; interface = r.incoming; source = a } ≡ note_on chosen i n
 note_found chosen r i n u a found e f = rw (found, e, f)
 
-pub note_none : (chosen : Chosen) (i : Incoming) (n : ℕ) → chosen ≡ Nothing
+pub note_none : (chosen : Option Route) (i : Option Interface) (n : ℕ) → chosen ≡ None
     → record { length = n; destination = 0; port = 0; interface = 0; source = 0 } ≡ note_on chosen i n
 note_none chosen i n none = rw none
 

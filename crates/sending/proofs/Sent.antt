@@ -12,7 +12,6 @@ use lib.Seq.{get_or-append-add, set-append_left}
 use Rattle.wire.specs.Numbers.{byte_at}
 use Rattle.rows.proofs.Laws.{cond_cases}
 use Rattle.tables.specs.Tables.{interface_of}
-use Rattle.route.specs.declared.Chosen.TheVariants.{Nothing}
 use Rattle.forwarding.specs.declared.View.{View}
 use Rattle.written.specs.declared.Block.{Block}
 use Rattle.forwarding.specs.Code.{wrong_last_hop, code_of, code_no_space, code_wrong_last_hop}
@@ -31,6 +30,7 @@ use Rattle.sending.specs.Answer.{Sent, sent_on, sent_home, goes_home, goes_on, f
 use Rattle.format.specs.declared.Format.{Format}
 use Rattle.written.specs.Inside.{Writes}
 use Rattle.view.specs.Room.{room_with, room_for}
+use Rattle.std.specs.Prelude.{None}
 
 -- a message with a type written and a block behind it, as the laws of messages have it: the block is appended, then the type written
 pub longer_as : (kind : ℕ) (m : List ℕ) (b : Block) → 0 < length m → longer_message kind m b ≡ set (m ++ block_bytes b) 0 kind
@@ -76,7 +76,7 @@ module _ (F : Format) where
         sent_cases (λ (s : Sent). (s.answer ≡ sent_on) ⊎ (s.answer ≡ sent_home)) (λ h. inr refl) (λ h e. inr refl) (λ h e. inl refl)
 
     -- without a route the trace ends
-    module _ (none : route_for F sheet (header_of m) ≡ Nothing) where
+    module _ (none : route_for F sheet (header_of m) ≡ None) where
       pub no_route_home : (sent_by F a time sheet).answer ≡ sent_home
       unfolding view_with
       no_route_home =
@@ -107,7 +107,7 @@ module _ {F : Format} (writes : Writes F) where
         (λ h. absurd (omega arith)) (λ h e. longer-code reply a.message b) (λ h e. longer-code request a.message b)
 
     -- WRONG_LAST_HOP hides NO_ROUTE, and the trace ends
-    pub hidden_no_route_home : route_for F sheet (header_of a.message) ≡ Nothing → HasRoom F (room_for F a sheet) a.message → wrong_last_hop (view_of F a time sheet) ≡ true
+    pub hidden_no_route_home : route_for F sheet (header_of a.message) ≡ None → HasRoom F (room_for F a sheet) a.message → wrong_last_hop (view_of F a time sheet) ≡ true
         → (byte_at (sent_by F a time sheet).message (length a.message + F.code) ≡ code_wrong_last_hop) × ((sent_by F a time sheet).answer ≡ sent_home)
     unfolding view_with
     hidden_no_route_home none fits wrong = (sent-code fits ∙ hidden_no_route (view_of F a time sheet) none wrong, no_route_home F a time sheet none)

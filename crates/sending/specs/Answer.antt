@@ -1,9 +1,6 @@
 -- What a router sends when it has accepted a message (document 01, "One router's step"): the Request on, or the Reply home.
-use Rattle.std.specs.Prelude.{ℕ, ◌+◌, cond, List, ◌++◌, length, set}
+use Rattle.std.specs.Prelude.{ℕ, ◌+◌, cond, List, ◌++◌, length, set, Option, Some, None}
 use Rattle.tables.specs.Tables.{interface_of}
-use Rattle.route.specs.declared.Chosen.{Chosen}
-use Rattle.route.specs.declared.Chosen.TheVariants.{Found, Nothing}
-use Rattle.forwarding.specs.declared.Incoming.{Incoming}
 use Rattle.forwarding.specs.declared.View.{View}
 use Rattle.written.specs.declared.Block.{Block}
 use Rattle.written.specs.declared.Note.{Note}
@@ -20,6 +17,8 @@ use Rattle.drops.specs.Arrival.{Arrival}
 use Rattle.view.specs.View.{view_of}
 use Rattle.view.specs.Room.{room_for}
 use Rattle.format.specs.declared.Format.{Format}
+use Rattle.route_entry.specs.declared.Route.{Route}
+use Rattle.interface.specs.declared.Interface.{Interface}
 
 -- the answers: 100 is a Request sent on, 101 a Reply
 abbrev pub sent_on : ℕ
@@ -49,9 +48,9 @@ note_home h size source =
 
 -- the record of a Request sent on: upstream or 224.0.0.2, 33435, the incoming interface and its address. Without a route nothing is
 -- sent on, so that the first line is met by no input
-abbrev pub note_on : Chosen → Incoming → ℕ → Note
-note_on Nothing incoming size = record { length = size; destination = 0; port = 0; interface = 0; source = 0 }
-note_on (Found r) incoming size =
+abbrev pub note_on : Option Route → Option Interface → ℕ → Note
+note_on None incoming size = record { length = size; destination = 0; port = 0; interface = 0; source = 0 }
+note_on (Some r) incoming size =
     record { length = size; destination = upstream_of r; port = mtrace_port; interface = r.incoming; source = address_of incoming }
 
 -- a message sent home, and one sent on, with its record

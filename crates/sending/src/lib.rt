@@ -12,10 +12,10 @@ ghost use Rattle.sending.specs.Answer.{note_home, note_on, goes_home, full_messa
 ghost use Rattle.sending.specs.Inside.{Written, WithRoom, WithoutRoom, kind_sent};
 
 use format::Format;
-use forwarding::{Incoming, View};
+use forwarding::View;
 use header::Header;
 use interface::Interface;
-use route::Chosen;
+use route_entry::Route;
 use written::{Block, Note};
 
 // The answers: a Request sent on, and a Reply.
@@ -74,19 +74,19 @@ fn note_home(h: Header, size: usize, source: u32) -> Note
 }
 
 // The record of a Request sent on.
-fn note_on(chosen: Chosen, incoming: Incoming, size: usize) -> Note
+fn note_on(chosen: Option<Route>, incoming: Option<Interface>, size: usize) -> Note
     requires { size ≤ output_size }
     ensures { result ≡ note_on chosen incoming size }
 {
     match chosen {
-        Chosen::Found(r) => Note {
+        Some(r) => Note {
             length: size as u16,
             destination: response::upstream(r),
             port: MTRACE_PORT,
             interface: r.incoming,
             source: response::address_of(incoming),
         },
-        Chosen::Nothing => Note {
+        None => Note {
             length: size as u16,
             destination: 0,
             port: 0,

@@ -5,7 +5,6 @@
 
 use std::io;
 use std::io::{BufReader, BufWriter, Read, Write};
-use tables::Holding;
 
 // Room for one block more than a sheet may have.
 const AREA: usize = 8704;
@@ -87,8 +86,8 @@ fn holder(out: &mut impl Write, s: &[u8], address: u32) -> io::Result<()> {
     let l = sheet::check(s);
     tape::text(out, b" ->")?;
     match tables::holder(format::IPV4, s, l.interfaces, address) {
-        Holding::At(i) => tape::then(out, i as u64)?,
-        Holding::Nowhere => tape::then(out, 65535)?,
+        Some(i) => tape::then(out, i as u64)?,
+        None => tape::then(out, 65535)?,
     }
     tape::end(out)
 }

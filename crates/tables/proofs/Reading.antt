@@ -21,11 +21,10 @@ use Rattle.sheet.specs.Sheet.{most_blocks, interface_blocks, counted, layout_of}
 use Rattle.tables.specs.Tables.{place_of, interface_of, route_place, route_of, interfaces_of, prohibited_of, holder_from, holder_of}
 use Rattle.tables.specs.Inside.{routes_beside, Beside}
 use Rattle.sheet.specs.declared.Layout.{Layout}
-use Rattle.tables.specs.declared.Holding.{Holding}
-use Rattle.tables.specs.declared.Holding.TheVariants.{At, Nowhere}
 use Rattle.sheet.proofs.Laws.{valid, layout_valid, valid_told, interface_few, route_valid}
 use Rattle.tables.proofs.Places.{some_room, place_low, in_row}
 use Rattle.tables.proofs.Entries.{interface_bytes_lem, route_bytes_lem, route_keeps}
+use Rattle.std.specs.Prelude.{Option, Some, None}
 
 module _ {F : Format} (sound : Sound F) where
   -- an interface's place
@@ -103,7 +102,7 @@ unfolding prohibited_of
 switches_read s x e = rw (e, be-part 1 s 0 block_size switches_at (omega arith))
 
 -- the holder of an address: the search among n interfaces, from interface i on
-pub searched : Format → List ℕ → ℕ → ℕ → ℕ → Holding
+pub searched : Format → List ℕ → ℕ → ℕ → ℕ → Option ℕ
 searched F s address i n = holder_from address i (listed (interface_of F s) i n)
 
 module _ (F : Format) (s : List ℕ) (n : ℕ) (all : n ≡ (layout_of F s).interfaces) where
@@ -118,16 +117,16 @@ module _ (F : Format) (s : List ℕ) (n : ℕ) (all : n ≡ (layout_of F s).inte
   search_start address = rw (sub-zero, all)
 
 module _ (F : Format) (s : List ℕ) (address i n : ℕ) (onwards : holder_of F s address ≡ searched F s address i (n - i)) where
-  pub search_none : n ≤ i → Nowhere ≡ holder_of F s address
+  pub search_none : n ≤ i → None ≡ holder_of F s address
   unfolding searched holder_from listed
   search_none h = let e : n - i ≡ 0 = omega arith in sym (rw e at onwards)
 
   module _ (more : i < n) (x at : ℕ) (there : at ≡ place_of F.interface 0 i) (read : x ≡ be32 s at) where
-    step : holder_of F s address ≡ cond (eqb x address) (At i) (searched F s address (i + 1) (n - (i + 1)))
+    step : holder_of F s address ≡ cond (eqb x address) (Some i) (searched F s address (i + 1) (n - (i + 1)))
     unfolding searched holder_from listed interface_of interface_at
     step = let e : n - i ≡ suc (n - (i + 1)) = omega arith in rw (read, there) (rw e at onwards)
 
-    pub search_found : x ≡ address → At i ≡ holder_of F s address
+    pub search_found : x ≡ address → Some i ≡ holder_of F s address
     search_found e = sym (rw (eq-eqb x address e) at step)
 
     pub search_on : (x ≡ address → ⊥) → holder_of F s address ≡ searched F s address (i + 1) (n - (i + 1))

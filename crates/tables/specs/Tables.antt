@@ -1,5 +1,5 @@
 -- Reading a valid sheet: interfaces and routes by their numbers, the prohibition, and who holds an address.
-use Rattle.std.specs.Prelude.{ℕ, ◌+◌, ◌*◌, ◌/◌, ◌%◌, Bool, cond, List, [], ◌∷◌, eqb}
+use Rattle.std.specs.Prelude.{ℕ, ◌+◌, ◌*◌, ◌/◌, ◌%◌, Bool, cond, List, [], ◌∷◌, eqb, Option, Some, None}
 use Rattle.block.specs.Block.{block_size, switches_of, entries_each, place_in_block}
 use Rattle.format.specs.declared.Format.{Format}
 use Rattle.interface.specs.Interface.{interface_at}
@@ -9,8 +9,6 @@ use Rattle.route_entry.specs.declared.Route.{Route}
 use Rattle.sheet_block.specs.Every.{listed}
 use Rattle.sheet_block.specs.Rules.{prohibits}
 use Rattle.sheet.specs.Sheet.{sheet_block, interface_blocks, layout_of}
-use Rattle.tables.specs.declared.Holding.{Holding}
-use Rattle.tables.specs.declared.Holding.TheVariants.{At, Nowhere}
 
 -- where entry i of a kind begins: numbers run on over the blocks of the kind, from block `first` on
 abbrev pub place_of : ℕ → ℕ → ℕ → ℕ
@@ -41,12 +39,12 @@ unfoldable pub prohibited_of : List ℕ → Bool
 prohibited_of s = eqb (switches_of (sheet_block s 0)) prohibits
 
 -- the lowest interface that holds an address, of those numbered from i on
-unfoldable pub holder_from : ℕ → ℕ → List Interface → Holding
-holder_from address i [] = Nowhere
+unfoldable pub holder_from : ℕ → ℕ → List Interface → Option ℕ
+holder_from address i [] = None
 holder_from address i (x ∷ xs) =
     let later = holder_from address (i + 1) xs in
-    cond (eqb x.address address) (At i) later
+    cond (eqb x.address address) (Some i) later
 
 -- and of all
-unfoldable pub holder_of : Format → List ℕ → ℕ → Holding
+unfoldable pub holder_of : Format → List ℕ → ℕ → Option ℕ
 holder_of F s address = holder_from address 0 (interfaces_of F s)

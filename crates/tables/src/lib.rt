@@ -13,13 +13,6 @@ use format::Format;
 use sheet::Layout;
 use sheet_block::PROHIBITS;
 
-// The number of the interface that holds an address, or none.
-#[derive(Drop)]
-pub enum Holding {
-    At(usize),
-    Nowhere,
-}
-
 // Where interface `i` begins. It is read there (crate `interface`).
 pub fn interface_place(f: Format, i: usize) -> usize
     requires sound { Sound f }
@@ -65,7 +58,7 @@ pub fn prohibited(s: &[u8]) -> bool
 }
 
 // The lowest interface that holds an address, of a sheet that has so many.
-pub fn holder(f: Format, s: &[u8], interfaces: usize, address: u32) -> Holding
+pub fn holder(f: Format, s: &[u8], interfaces: usize, address: u32) -> Option<usize>
     requires sound { Sound f }
     requires interfaces_value { interfaces ≡ (layout_of f s.now).interfaces }
     ensures { result ≡ holder_of f s.now address }
@@ -73,9 +66,9 @@ pub fn holder(f: Format, s: &[u8], interfaces: usize, address: u32) -> Holding
     let mut i: usize = 0;
     while i < interfaces {
         if wire::be32(s, interface_place(f, i)) == address {
-            return Holding::At(i);
+            return Some(i);
         }
         i += 1;
     }
-    Holding::Nowhere
+    None
 }

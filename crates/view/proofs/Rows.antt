@@ -14,37 +14,34 @@ use Rattle.tables.specs.Tables.{interface_of, prohibited_of}
 use Rattle.block.specs.Block.{block_size}
 use Rattle.sheet.proofs.Laws.{interface_valid, valid_told}
 use Rattle.tables.proofs.Laws.{valid_long}
-use Rattle.route.specs.declared.Chosen.{Chosen}
-use Rattle.route.specs.declared.Chosen.TheVariants.{Found, Nothing}
-use Rattle.forwarding.specs.declared.Incoming.{Incoming}
-use Rattle.forwarding.specs.declared.Incoming.TheVariants.{Known, Unknown}
 use Rattle.header.specs.declared.Header.{Header}
 use Rattle.view.specs.View.{incoming_for, view_with}
 use Rattle.view.specs.Inside.{RouteThere}
 use Rattle.header.specs.Format.{query}
 use Rattle.format.specs.declared.Format.{Format}
 use Rattle.view.specs.Room.{link_of}
+use Rattle.std.specs.Prelude.{Option, Some, None}
 
 -- the link whose room counts, where the incoming interface is known
-pub link_known : (incoming : Incoming) (i here : Interface) → incoming ≡ Known i → i.mtu ≡ (link_of incoming here).mtu
+pub link_known : (incoming : Option Interface) (i here : Interface) → incoming ≡ Some i → i.mtu ≡ (link_of incoming here).mtu
 link_known incoming i here e = rw e
 
 module _ (F : Format) where
   -- the incoming interface, by the route chosen
-  module _ (s : List ℕ) (chosen : Chosen) where
-    module _ (r : Route) (found : chosen ≡ Found r) where
-      pub incoming_unknown : r.incoming ≡ unknown → Unknown ≡ incoming_for F s chosen
+  module _ (s : List ℕ) (chosen : Option Route) where
+    module _ (r : Route) (found : chosen ≡ Some r) where
+      pub incoming_unknown : r.incoming ≡ unknown → None ≡ incoming_for F s chosen
       unfolding incoming_for
       incoming_unknown e = rw (found, eq-eqb r.incoming unknown e)
 
-      pub incoming_known : (i : Interface) → (r.incoming ≡ unknown → ⊥) → i ≡ interface_of F s r.incoming → Known i ≡ incoming_for F s chosen
+      pub incoming_known : (i : Interface) → (r.incoming ≡ unknown → ⊥) → i ≡ interface_of F s r.incoming → Some i ≡ incoming_for F s chosen
       unfolding incoming_for
       incoming_known i e f = rw (found, ne_eqb r.incoming unknown e, f)
 
       pub incoming_there : (r.incoming ≡ unknown → ⊥) → RouteThere (layout_of F s).interfaces chosen → r.incoming < (layout_of F s).interfaces
       incoming_there e there = (rw found at there) e
 
-    pub incoming_none : chosen ≡ Nothing → Unknown ≡ incoming_for F s chosen
+    pub incoming_none : chosen ≡ None → None ≡ incoming_for F s chosen
     unfolding incoming_for
     incoming_none none = rw none
 
@@ -53,7 +50,7 @@ module _ (F : Format) where
   switches_here s receiving h = valid_long F s (valid_told F s ∙ interface_valid F s receiving h)
 
   -- the view, field by field
-  pub view_made : (s : List ℕ) (h : Header) (chosen : Chosen) (proper : Bool) (receiving time : ℕ) (incoming : Incoming) (prohibited : Bool) (here : Interface)
+  pub view_made : (s : List ℕ) (h : Header) (chosen : Option Route) (proper : Bool) (receiving time : ℕ) (incoming : Option Interface) (prohibited : Bool) (here : Interface)
       → incoming ≡ incoming_for F s chosen → prohibited ≡ prohibited_of s → here ≡ interface_of F s receiving
       → record {
         query = eqb h.kind query;

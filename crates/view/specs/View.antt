@@ -1,26 +1,24 @@
 -- What the router looks at when it answers.
-use Rattle.std.specs.Prelude.{ℕ, Bool, cond, List, eqb}
+use Rattle.std.specs.Prelude.{ℕ, Bool, cond, List, eqb, Option, Some, None}
 use Rattle.route_entry.specs.Route.{unknown}
 use Rattle.tables.specs.Tables.{interface_of, prohibited_of}
-use Rattle.route.specs.declared.Chosen.{Chosen}
-use Rattle.route.specs.declared.Chosen.TheVariants.{Found, Nothing}
 use Rattle.forwarding.specs.declared.View.{View}
-use Rattle.forwarding.specs.declared.Incoming.{Incoming}
-use Rattle.forwarding.specs.declared.Incoming.TheVariants.{Known, Unknown}
 use Rattle.header.specs.declared.Header.{Header}
 use Rattle.header.specs.Header.{header_of}
 use Rattle.drops.specs.Arrival.{Arrival, is_query, route_for, last_hop_for}
 use Rattle.format.specs.declared.Format.{Format}
+use Rattle.route_entry.specs.declared.Route.{Route}
+use Rattle.interface.specs.declared.Interface.{Interface}
 
 -- the incoming interface that a route names, where it is known
-unfoldable pub incoming_for : Format → List ℕ → Chosen → Incoming
-incoming_for F sheet Nothing = Unknown
-incoming_for F sheet (Found r) =
-    let known = Known (interface_of F sheet r.incoming) in
-    cond (eqb r.incoming unknown) Unknown known
+unfoldable pub incoming_for : Format → List ℕ → Option Route → Option Interface
+incoming_for F sheet None = None
+incoming_for F sheet (Some r) =
+    let known = Some (interface_of F sheet r.incoming) in
+    cond (eqb r.incoming unknown) None known
 
 -- what the router looks at, for a header that came in on an interface at a time, with the route for it
-unfoldable pub view_with : Format → List ℕ → Header → Chosen → Bool → ℕ → ℕ → View
+unfoldable pub view_with : Format → List ℕ → Header → Option Route → Bool → ℕ → ℕ → View
 view_with F sheet h chosen proper receiving time =
     record {
       query = is_query h;

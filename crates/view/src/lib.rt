@@ -9,38 +9,38 @@ ghost use Rattle.view.specs.Room.{link_of};
 ghost use Rattle.view.specs.Inside.{RouteThere};
 
 use format::Format;
-use forwarding::{Incoming, View};
+use forwarding::View;
 use header::Header;
 use interface::Interface;
-use route::Chosen;
+use route_entry::Route;
 
 // The incoming interface that the route chosen names.
-fn incoming_for(f: Format, sheet: &[u8], chosen: Chosen) -> Incoming
+fn incoming_for(f: Format, sheet: &[u8], chosen: Option<Route>) -> Option<Interface>
     requires sound { Sound f }
     requires route_there { RouteThere (layout_of f sheet.now).interfaces chosen }
     ensures { result ≡ incoming_for f sheet.now chosen }
 {
     match chosen {
-        Chosen::Found(r) => {
+        Some(r) => {
             if r.incoming == route_entry::UNKNOWN {
-                return Incoming::Unknown;
+                return None;
             }
-            Incoming::Known(interface::interface_at(
+            Some(interface::interface_at(
                 sheet,
                 tables::interface_place(f, r.incoming as usize),
             ))
         }
-        Chosen::Nothing => Incoming::Unknown,
+        None => None,
     }
 }
 
 // The MTU of the link whose room counts: the incoming interface's, or the receiving one's where that is not known.
-pub fn link_mtu(incoming: Incoming, here: Interface) -> u16
+pub fn link_mtu(incoming: Option<Interface>, here: Interface) -> u16
     ensures { result ≡ (link_of incoming here).mtu }
 {
     match incoming {
-        Incoming::Known(i) => i.mtu,
-        Incoming::Unknown => here.mtu,
+        Some(i) => i.mtu,
+        None => here.mtu,
     }
 }
 
@@ -49,7 +49,7 @@ pub fn view_with(
     f: Format,
     sheet: &[u8],
     h: Header,
-    chosen: Chosen,
+    chosen: Option<Route>,
     proper: bool,
     receiving: u32,
     time: u32,

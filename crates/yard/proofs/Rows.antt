@@ -24,8 +24,6 @@ use Rattle.sending.specs.Answer.{Sent, sent_on}
 use Rattle.yard.specs.declared.Call.{Call}
 use Rattle.yard.specs.declared.Hop.{Hop}
 use Rattle.yard.specs.declared.Walked.{Walked}
-use Rattle.yard.specs.declared.Holder.{Holder}
-use Rattle.yard.specs.declared.Holder.TheVariants.{Held, Nobody}
 use Rattle.yard.specs.Yard.{sheet_size, sheet_at, holder_in}
 use Rattle.yard.specs.Walk.{to_group, nobody_there, Visit, visit, sent_for, sent_at, end_by, end_of, next_of, walk_from, Tells}
 use Rattle.yard.specs.Inside.{CanEnter, Called, Hopped, Ended}
@@ -36,6 +34,7 @@ use Rattle.yard.proofs.Traces.{walk_within}
 use Rattle.format.specs.declared.Format.{Format}
 use Rattle.format.specs.Sizes.{Sound, output_size}
 use Rattle.written.specs.Inside.{Writes}
+use Rattle.std.specs.Prelude.{Option, Some, None}
 
 pub counted : (F : Format) (s : List ℕ) (b : Blocks) → b ≡ blocks_seen F s → b.count ≡ standard_count F s
 unfolding blocks_seen
@@ -86,17 +85,17 @@ module _ {F : Format} (sound : Sound F) (writes : Writes F) where
       pub hop_group : x ≡ true → (h : Hop) → h ≡ hop to_group 0 0 → Hopped F yard sent old h new
       hop_group g h is = ended to_group h is (sym (end_group sound writes yard sent on_sent (to_group_lem ∙ g))) (λ e. omega arith)
 
-      module _ (no-group : x ≡ false) (h : Holder) (holder : h ≡ holder_in F yard c.to) where
+      module _ (no-group : x ≡ false) (h : Option (ℕ × ℕ)) (holder : h ≡ holder_in F yard c.to) where
         held_by_lem : holder_in F yard sent.note.destination ≡ h
         held_by_lem = ap (holder_in F yard) (sym asked.to) ∙ sym holder
 
         end_is : end_of F yard sent ≡ end_by h
         end_is = end_held sound writes yard sent on_sent (to_group_lem ∙ no-group) ∙ ap end_by held_by_lem
 
-        pub hop_nobody : h ≡ Nobody → (n : Hop) → n ≡ hop nobody_there 0 0 → Hopped F yard sent old n new
+        pub hop_nobody : h ≡ None → (n : Hop) → n ≡ hop nobody_there 0 0 → Hopped F yard sent old n new
         hop_nobody e n is = ended nobody_there n is (sym (end_is ∙ ap end_by e)) (λ z. omega arith)
 
-        pub hop_on : (i k : ℕ) → h ≡ Held i k → Hopped F yard sent old (hop sent_on i k) new
+        pub hop_on : (i k : ℕ) → h ≡ Some (i, k) → Hopped F yard sent old (hop sent_on i k) new
         hop_on i k e =
             record {
               end = sym (end_is ∙ ap end_by e);
@@ -106,7 +105,7 @@ module _ {F : Format} (sound : Sound F) (writes : Writes F) where
               there = λ on. (holder_found F yard c.to i k (sym holder ∙ e)).there;
             }
 
-  pub held_fits : (yard : List ℕ) (to i k : ℕ) (h : Holder) → h ≡ holder_in F yard to → h ≡ Held i k → k < 4294967296
+  pub held_fits : (yard : List ℕ) (to i k : ℕ) (h : Option (ℕ × ℕ)) → h ≡ holder_in F yard to → h ≡ Some (i, k) → k < 4294967296
   held_fits yard to i k h e f = omega (arith, (holder_found F yard to i k (sym e ∙ f)).few)
 
   -- a turn of the walk

@@ -16,12 +16,10 @@ use Rattle.sheet_block.specs.Every.{every}
 use Rattle.sheet.specs.Sheet.{layout_of}
 use Rattle.tables.specs.Tables.{holder_of}
 use Rattle.sheet.specs.declared.Layout.{Layout}
-use Rattle.tables.specs.declared.Holding.{Holding}
-use Rattle.tables.specs.declared.Holding.TheVariants.{At, Nowhere}
-use Rattle.yard.specs.declared.Holder.TheVariants.{Held, Nobody}
 use Rattle.yard.specs.Inside.{Counted, YardChecked}
 use Rattle.yard.specs.Yard.{sheet_size, most_routers, routers_in, sheet_at, valid_at, yard_size_ok, yard_ok, held_by, lowest_from, holder_in}
 use Rattle.format.specs.declared.Format.{Format}
+use Rattle.std.specs.Prelude.{Option, Some, None}
 
 -- the part of a yard that is lent for router i
 pub lent_sheet : (yard : List ℕ) (i : ℕ) → take (sheet_size * i + sheet_size - sheet_size * i) (drop (sheet_size * i) yard) ≡ sheet_at yard i
@@ -117,16 +115,16 @@ module _ (F : Format) where
       unfolding lowest_from
       step h = let e : n - i ≡ suc (n - (i + 1)) = omega arith in so_far ∙ rw e
 
-      module _ (found : Holding) (told : found ≡ holder_of F (take (sheet_size * i + sheet_size - sheet_size * i) (drop (sheet_size * i) yard)) address) (here : i < n) where
+      module _ (found : Option ℕ) (told : found ≡ holder_of F (take (sheet_size * i + sheet_size - sheet_size * i) (drop (sheet_size * i) yard)) address) (here : i < n) where
         asked : holder_of F (sheet_at yard i) address ≡ found
         asked = sym (told ∙ rw (lent_sheet yard i))
 
-        pub search_found : (k : ℕ) → found ≡ At k → Held i k ≡ holder_in F yard address
+        pub search_found : (k : ℕ) → found ≡ Some k → Some (i, k) ≡ holder_in F yard address
         search_found k e = rw (step here, asked, e)
 
-        pub search_on : found ≡ Nowhere → holder_in F yard address ≡ lowest_from F yard address (i + 1) (n - (i + 1))
+        pub search_on : found ≡ None → holder_in F yard address ≡ lowest_from F yard address (i + 1) (n - (i + 1))
         search_on e = step here ∙ rw (asked, e)
 
-      pub search_none : n ≤ i → Nobody ≡ holder_in F yard address
+      pub search_none : n ≤ i → None ≡ holder_in F yard address
       unfolding lowest_from
       search_none h = let e : n - i ≡ 0 = omega arith in rw (so_far, e)

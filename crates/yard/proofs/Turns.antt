@@ -21,8 +21,6 @@ use Rattle.rows.specs.Rows.{first_of}
 use Rattle.sending.specs.Answer.{Sent, sent_on, sent_home, full_message, longer_message, sent_by}
 use Rattle.drops.proofs.Laws.{Taken, taken, drop_numbers}
 use Rattle.sending.proofs.Laws.{sent_cases, sent-answer, sent_fits, Grown, sent_on_grows, no_later_drop}
-use Rattle.yard.specs.declared.Holder.{Holder}
-use Rattle.yard.specs.declared.Holder.TheVariants.{Held, Nobody}
 use Rattle.yard.specs.Yard.{sheet_at, holder_in}
 use Rattle.yard.specs.Holders.{LowestHolder, NobodyHolds}
 use Rattle.yard.specs.Faithful.{Accepts, block_for, room_at, EndsWell}
@@ -32,12 +30,13 @@ use Rattle.yard.proofs.Calls.{sent-dropped, sent_taken}
 use Rattle.format.specs.declared.Format.{Format}
 use Rattle.format.specs.Sizes.{Sound, output_size}
 use Rattle.written.specs.Inside.{Writes}
+use Rattle.std.specs.Prelude.{Option, Some, None}
 
 -- what becomes of a Request sent on
 pub record Reaches (F : Format) (yard : List ℕ) (sent : Sent) : Type 0 where
   pub router : ℕ
   pub interface : ℕ
-  pub held : holder_in F yard sent.note.destination ≡ Held router interface
+  pub held : holder_in F yard sent.note.destination ≡ Some (router, interface)
   pub on : end_of F yard sent ≡ sent_on
 
 -- a visit from which the walk goes on
@@ -69,12 +68,12 @@ module _ {F : Format} (sound : Sound F) (writes : Writes F) where
       -- by who holds the destination, said without the search for it
       module _ (single : multicast sent.note.destination ≡ false) where
         pub end_nobody : NobodyHolds F yard sent.note.destination → end_of F yard sent ≡ nobody_there
-        end_nobody h = end_held single ∙ ap end_by (sym (holder_unique F yard sent.note.destination Nobody h))
+        end_nobody h = end_held single ∙ ap end_by (sym (holder_unique F yard sent.note.destination None h))
 
         pub end_goes : (router interface : ℕ) → LowestHolder F yard sent.note.destination router interface
             → (end_of F yard sent ≡ sent_on) × (next_of F yard sent ≡ visit router (arrival sent.message sent.note.destination interface near_ttl))
         end_goes router interface h =
-            let is = sym (holder_unique F yard sent.note.destination (Held router interface) h) in
+            let is = sym (holder_unique F yard sent.note.destination (Some (router, interface)) h) in
             (end_held single ∙ ap end_by is, ap (next_by sent) is)
 
       -- 102, 103, or it reaches a router
@@ -83,10 +82,10 @@ module _ {F : Format} (sound : Sound F) (writes : Writes F) where
           ⊎_elim (λ g. inl (inl (end_group g)))
           (λ g. by_holder (end_held g) (holder_in F yard sent.note.destination) refl)
           (decided (multicast sent.note.destination)) where
-            by_holder : end_of F yard sent ≡ end_by (holder_in F yard sent.note.destination) → (h : Holder) → holder_in F yard sent.note.destination ≡ h
+            by_holder : end_of F yard sent ≡ end_by (holder_in F yard sent.note.destination) → (h : Option (ℕ × ℕ)) → holder_in F yard sent.note.destination ≡ h
                 → ((end_of F yard sent ≡ to_group) ⊎ (end_of F yard sent ≡ nobody_there)) ⊎ Reaches F yard sent
-            by_holder e (Held i k) q = inr (record { router = i; interface = k; held = q; on = e ∙ rw q })
-            by_holder e Nobody q = inl (inr (e ∙ rw q))
+            by_holder e (Some (i, k)) q = inr (record { router = i; interface = k; held = q; on = e ∙ rw q })
+            by_holder e None q = inl (inr (e ∙ rw q))
 
   ending_as : (room : ℕ) (m : List ℕ) (b : Block) (e e' : ℕ) (last last' : List ℕ) → e ≡ e' → last ≡ last' → Ending F room m b e' last' → Ending F room m b e last
   ending_as room m b e e' last last' p q x = rw (p, q) x

@@ -2,7 +2,7 @@
 -- Here: what a walk is without steps counted beforehand, and what is true of every walk that is not refused and that its first router
 -- accepts, whatever the yard's addresses do. What messages carry is told of by their lists of type 4 blocks, never by places or
 -- lengths.
-use Rattle.std.specs.Prelude.{ℕ, suc, ◌+◌, ◌-◌, ◌/◌, ◌≤◌, ◌<◌, List, [], ◌∷◌, map, ◌⊎◌, ◌≡◌, length, take, get_or}
+use Rattle.std.specs.Prelude.{ℕ, suc, ◌+◌, ◌-◌, ◌/◌, ◌≤◌, ◌<◌, List, [], ◌∷◌, map, ◌⊎◌, ◌≡◌, length, take, get_or, Option, Some, None}
 use Rattle.rows.specs.Rows.{NoneApplies}
 use Rattle.written.specs.declared.Block.{Block}
 use Rattle.response.specs.Fill.{block_of}
@@ -14,17 +14,15 @@ use Rattle.view.specs.View.{view_of}
 use Rattle.view.specs.Room.{room_for}
 use Rattle.sending.specs.Answer.{sent_on, sent_home}
 use Rattle.forwarding.specs.Code.{code_no_space}
-use Rattle.yard.specs.declared.Holder.{Holder}
-use Rattle.yard.specs.declared.Holder.TheVariants.{Held, Nobody}
 use Rattle.yard.specs.Holders.{LowestHolder, NobodyHolds}
 use Rattle.yard.specs.Yard.{sheet_at}
 use Rattle.yard.specs.Walk.{to_group, nobody_there, Visit, sent_at, end_of, next_of, rows_for, Walk, walk_rows}
 use Rattle.format.specs.declared.Format.{Format}
 
 -- what it means that somebody, or nobody, is the lowest router and interface holding an address
-abbrev pub HolderIs : Format → List ℕ → ℕ → Holder → Type 0
-HolderIs F yard address (Held router interface) = LowestHolder F yard address router interface
-HolderIs F yard address Nobody = NobodyHolds F yard address
+abbrev pub HolderIs : Format → List ℕ → ℕ → Option (ℕ × ℕ) → Type 0
+HolderIs F yard address (Some (router, interface)) = LowestHolder F yard address router interface
+HolderIs F yard address None = NobodyHolds F yard address
 
 -- a run from a visit, with its visits, its end and the last message sent: a visit that ends otherwise than by 100 is the last, and
 -- one that ends by 100 leads to the next

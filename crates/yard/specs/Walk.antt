@@ -1,6 +1,6 @@
 -- The walk (document 01, "Walk"): the routers that a trace enters, in order, with what each receives; its end; and the last
 -- message sent.
-use Rattle.std.specs.Prelude.{ℕ, zero, suc, not, cond, List, [], ◌∷◌, ◌≡◌, leb, ltb, eqb, length, get_or}
+use Rattle.std.specs.Prelude.{ℕ, zero, suc, not, cond, List, [], ◌∷◌, ◌≡◌, leb, ltb, eqb, length, get_or, Option, Some, None}
 use Rattle.wire.specs.Numbers.{byte_at}
 use Rattle.wire.specs.Parts.{splice}
 use Rattle.address.specs.Addresses.{multicast}
@@ -13,8 +13,6 @@ use Rattle.drops.specs.Arrival.{Arrival, arrival}
 use Rattle.drops.specs.Drop.{drop_room, near_ttl, table}
 use Rattle.sending.specs.Answer.{Sent, sent_on, sent_by}
 use Rattle.yard.specs.declared.Walked.{Walked}
-use Rattle.yard.specs.declared.Holder.{Holder}
-use Rattle.yard.specs.declared.Holder.TheVariants.{Held, Nobody}
 use Rattle.yard.specs.Yard.{routers_in, sheet_at, yard_ok, holder_in}
 use Rattle.format.specs.declared.Format.{Format}
 use Rattle.format.specs.Sizes.{output_size}
@@ -66,9 +64,9 @@ abbrev pub sent_at : Format → List ℕ → List ℕ → Visit → Sent
 sent_at F yard times v = sent_for F (sheet_at yard v.router) (get_or times v.router 0) v.arrival
 
 -- what a Request sent on comes to: 103, or it goes on to who holds its destination
-abbrev pub end_by : Holder → ℕ
-end_by (Held router interface) = sent_on
-end_by Nobody = nobody_there
+abbrev pub end_by : Option (ℕ × ℕ) → ℕ
+end_by (Some (router, interface)) = sent_on
+end_by None = nobody_there
 
 -- the end of a walk with what is sent: a drop or a Reply, 102, 103; or 100 where it goes on
 unfoldable pub end_of : Format → List ℕ → Sent → ℕ
@@ -77,9 +75,9 @@ end_of F yard sent =
     cond (eqb sent.answer sent_on) (cond (multicast sent.note.destination) to_group onward) sent.answer
 
 -- the visit to who holds the destination: it arrives there with TTL 255
-abbrev pub next_by : Sent → Holder → Visit
-next_by sent (Held router interface) = visit router (arrival sent.message sent.note.destination interface near_ttl)
-next_by sent Nobody = visit 0 (arrival [] 0 0 0)
+abbrev pub next_by : Sent → Option (ℕ × ℕ) → Visit
+next_by sent (Some (router, interface)) = visit router (arrival sent.message sent.note.destination interface near_ttl)
+next_by sent None = visit 0 (arrival [] 0 0 0)
 
 -- where what is sent is received next
 abbrev pub next_of : Format → List ℕ → Sent → Visit

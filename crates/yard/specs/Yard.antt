@@ -1,13 +1,9 @@
 -- A yard (document 01, "Walk"): 1 to 32 sheets of 1024 bytes, one for each router, and who of them holds an address.
-use Rattle.std.specs.Prelude.{ℕ, zero, suc, ◌+◌, ◌*◌, ◌/◌, Bool, ◌&&◌, List, length}
+use Rattle.std.specs.Prelude.{ℕ, zero, suc, ◌+◌, ◌*◌, ◌/◌, Bool, ◌&&◌, List, length, Option, Some, None}
 use Rattle.wire.specs.Parts.{part, whole_parts}
 use Rattle.sheet_block.specs.Every.{every}
 use Rattle.sheet.specs.Sheet.{layout_of}
 use Rattle.tables.specs.Tables.{holder_of}
-use Rattle.tables.specs.declared.Holding.{Holding}
-use Rattle.tables.specs.declared.Holding.TheVariants.{At, Nowhere}
-use Rattle.yard.specs.declared.Holder.{Holder}
-use Rattle.yard.specs.declared.Holder.TheVariants.{Held, Nobody}
 use Rattle.format.specs.declared.Format.{Format}
 
 -- the bytes of a router's sheet in a yard
@@ -39,17 +35,17 @@ unfoldable pub yard_ok : Format → List ℕ → Bool
 yard_ok F yard = yard_size_ok (length yard) && every (valid_at F yard) (routers_in yard)
 
 -- router i holds an address at the interface that was found, or else whoever of those after it does
-abbrev pub held_by : ℕ → Holding → Holder → Holder
-held_by i (At k) later = Held i k
-held_by i Nowhere later = later
+abbrev pub held_by : ℕ → Option ℕ → Option (ℕ × ℕ) → Option (ℕ × ℕ)
+held_by i (Some k) later = Some (i, k)
+held_by i None later = later
 
 -- the lowest of n routers, from router i on, that holds an address, and its lowest interface
-unfoldable pub lowest_from : Format → List ℕ → ℕ → ℕ → ℕ → Holder
-lowest_from F yard address i zero = Nobody
+unfoldable pub lowest_from : Format → List ℕ → ℕ → ℕ → ℕ → Option (ℕ × ℕ)
+lowest_from F yard address i zero = None
 lowest_from F yard address i (suc n) =
     let later = lowest_from F yard address (i + 1) n in
     held_by i (holder_of F (sheet_at yard i) address) later
 
 -- the lowest router and interface holding an address
-unfoldable pub holder_in : Format → List ℕ → ℕ → Holder
+unfoldable pub holder_in : Format → List ℕ → ℕ → Option (ℕ × ℕ)
 holder_in F yard address = lowest_from F yard address 0 (routers_in yard)

@@ -12,7 +12,6 @@ ghost use Rattle.yard.specs.Yard.{sheet_size, most_routers, routers_in, valid_at
 ghost use Rattle.yard.specs.Walk.{visit, sent_for, sent_at, refused_walk, walked_of, walk_from, Tells, WalkTells};
 ghost use Rattle.yard.specs.Inside.{Counted, YardChecked, CanEnter, Called, Hopped, Ended};
 
-use tables::Holding;
 
 // Bytes of a router's sheet in a yard, and the most routers.
 pub const SHEET_SIZE: usize = 1024;
@@ -40,13 +39,6 @@ pub struct Walked {
     pub steps: u32,
     pub blocks: u32,
     pub length: u32,
-}
-
-// The router and the interface that hold an address.
-#[derive(Drop)]
-enum Holder {
-    Held(usize, usize),
-    Nobody,
 }
 
 // What the engine answered, and the length and the destination of what it sent.
@@ -103,7 +95,7 @@ fn yard_ok(yard: &[u8], counts: &mut [usize]) -> bool
 }
 
 // The lowest router of n, and its lowest interface, that hold an address.
-fn holder_in(yard: &[u8], counts: &[usize], n: usize, address: u32) -> Holder
+fn holder_in(yard: &[u8], counts: &[usize], n: usize, address: u32) -> Option<(usize, usize)>
     requires n_value { (n ≡ routers_in yard.now) × (n ≤ most_routers) × (sheet_size * n ≤ length yard.now) }
     requires counted { Counted ipv4 yard.now counts.now n }
     ensures { result ≡ holder_in ipv4 yard.now address }
@@ -113,12 +105,12 @@ fn holder_in(yard: &[u8], counts: &[usize], n: usize, address: u32) -> Holder
         let a = SHEET_SIZE * i;
         let e = a + SHEET_SIZE;
         let found = tables::holder(format::IPV4, &yard[a..e], counts[i], address);
-        if let Holding::At(k) = found {
-            return Holder::Held(i, k);
+        if let Some(k) = found {
+            return Some((i, k));
         }
         i += 1;
     }
-    Holder::Nobody
+    None
 }
 
 // One call of the engine, with enough lent and an empty recent list.
@@ -205,14 +197,14 @@ fn enter(
     }
     let holder = holder_in(yard, counts, yard.len() / SHEET_SIZE, to);
     match holder {
-        Holder::Held(i, k) => Hop {
+        Some((i, k)) => Hop {
             end: sending::SENT_ON,
             length: c.length,
             to,
             router: i,
             interface: k as u32,
         },
-        Holder::Nobody => ended(NOBODY_THERE, c),
+        None => ended(NOBODY_THERE, c),
     }
 }
 

@@ -2,5 +2,5 @@
 
 use Rattle.forwarding.proofs.boundary_on.Goals as goal
 
-pub returns-in-Known : goal.returns-in-Known
-returns-in-Known c = cc
+pub returns-in-Some : goal.returns-in-Some
+returns-in-Some c = cc

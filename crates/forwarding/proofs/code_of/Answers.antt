@@ -5,8 +5,8 @@ use Rattle.forwarding.proofs.code_of.Goals as goal
 pub returns-then-v : goal.returns-then-v
 returns-then-v c = search code_none_wrong
 
-pub returns-in-Found : goal.returns-in-Found
-returns-in-Found c = search code_found
+pub returns-in-Some : goal.returns-in-Some
+returns-in-Some c = search code_found
 
 pub returns-else-v : goal.returns-else-v
 returns-else-v c = search code_none

@@ -8,5 +8,5 @@ returns-then-is_rp c = search hop_rp
 pub returns-else-is_rp : goal.returns-else-is_rp
 returns-else-is_rp c = search hop_reached
 
-pub returns-in-Nothing : goal.returns-in-Nothing
-returns-in-Nothing c = search hop_none
+pub returns-in-None : goal.returns-in-None
+returns-in-None c = search hop_none

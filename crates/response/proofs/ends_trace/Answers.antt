@@ -2,8 +2,8 @@
 use Rattle.response.proofs.Rows.{ends_found, ends_none}
 use Rattle.response.proofs.ends_trace.Goals as goal
 
-pub returns-in-Found : goal.returns-in-Found
-returns-in-Found c = search ends_found
+pub returns-in-Some : goal.returns-in-Some
+returns-in-Some c = search ends_found
 
-pub returns-in-Nothing : goal.returns-in-Nothing
-returns-in-Nothing c = search ends_none
+pub returns-in-None : goal.returns-in-None
+returns-in-None c = search ends_none

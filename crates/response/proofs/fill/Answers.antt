@@ -8,8 +8,8 @@ returns-then-v c = search fill_shut
 pub filled_of-requires : goal.filled_of-requires
 filled_of-requires c = search fits_found
 
-pub returns-in-Found : goal.returns-in-Found
-returns-in-Found c = search fill_found
+pub returns-in-Some : goal.returns-in-Some
+returns-in-Some c = search fill_found
 
-pub returns-in-Nothing : goal.returns-in-Nothing
-returns-in-Nothing c = search fill_none
+pub returns-in-None : goal.returns-in-None
+returns-in-None c = search fill_none

@@ -2,8 +2,8 @@
 use Rattle.sending.proofs.Rows.{note_found, note_none}
 use Rattle.sending.proofs.note_on.Goals as goal
 
-pub returns-in-Found : goal.returns-in-Found
-returns-in-Found c = search note_found
+pub returns-in-Some : goal.returns-in-Some
+returns-in-Some c = search note_found
 
-pub returns-in-Nothing : goal.returns-in-Nothing
-returns-in-Nothing c = search note_none
+pub returns-in-None : goal.returns-in-None
+returns-in-None c = search note_none

@@ -17,5 +17,5 @@ interface_at-requires c = search (place_within, incoming_there)
 pub returns-else-r : goal.returns-else-r
 returns-else-r c = search (incoming_known, interface-told)
 
-pub returns-in-Nothing : goal.returns-in-Nothing
-returns-in-Nothing c = search incoming_none
+pub returns-in-None : goal.returns-in-None
+returns-in-None c = search incoming_none

@@ -2,5 +2,5 @@
 use Rattle.view.proofs.Rows.{link_known}
 use Rattle.view.proofs.link_mtu.Goals as goal
 
-pub returns-in-Known : goal.returns-in-Known
-returns-in-Known c = search link_known
+pub returns-in-Some : goal.returns-in-Some
+returns-in-Some c = search link_known

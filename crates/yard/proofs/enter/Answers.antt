@@ -13,8 +13,8 @@ returns-then-multicast c = search (hop_group, ipv4_sound, ipv4_writes)
 pub overflow_cast-result : goal.overflow_cast-result
 overflow_cast-result c = search (held_fits, ipv4_sound, ipv4_writes)
 
-pub returns-in-Held : goal.returns-in-Held
-returns-in-Held c = search (hop_on, ipv4_sound, ipv4_writes)
+pub returns-in-Some : goal.returns-in-Some
+returns-in-Some c = search (hop_on, ipv4_sound, ipv4_writes)
 
-pub returns-in-Nobody : goal.returns-in-Nobody
-returns-in-Nobody c = search (hop_nobody, ipv4_sound, ipv4_writes)
+pub returns-in-None : goal.returns-in-None
+returns-in-None c = search (hop_nobody, ipv4_sound, ipv4_writes)

@@ -10,8 +10,8 @@ loop-i-init c = (omega arith, search search_start)
 pub holder-found-requires : goal.holder-found-requires
 holder-found-requires c = record { sound = ipv4_sound; interfaces_value = search count-told }
 
-pub returns-in-At : goal.returns-in-At
-returns-in-At c = search search_found
+pub returns-in-Some : goal.returns-in-Some
+returns-in-Some c = search search_found
 
 pub loop-i-preserved : goal.loop-i-preserved
 loop-i-preserved c = (omega arith, search search_on)
