@@ -13,12 +13,11 @@ use Rattle.route.specs.Choice.{which_route}
 use Rattle.last_hop.specs.LastHop.{proper_last_hop}
 use Rattle.header.specs.declared.Header.{Header}
 use Rattle.message.specs.declared.Blocks.{Blocks}
-use Rattle.message.specs.declared.Checked.{Checked}
 use Rattle.header.specs.Header.{header_of}
 use Rattle.message.specs.Blocks.{standard_count}
 use Rattle.header.specs.Rows.{header_rows}
 use Rattle.message.specs.Check.{message_rows}
-use Rattle.message.specs.Inside.{accepted_message, check_of, blocks_seen}
+use Rattle.message.specs.Inside.{Checked, accepted_message, check_of, blocks_seen}
 use Rattle.message.proofs.Laws.{check-number, accepts_as}
 use Rattle.drops.specs.declared.Verdict.{Verdict}
 use Rattle.drops.specs.Arrival.{arrival, is_query, route_for, last_hop_for}

@@ -12,13 +12,12 @@ use lib.ListN.{length}
 use Rattle.address.specs.Addresses.{unicast}
 use Rattle.rows.proofs.Laws.{neither_of, both_of, one_of, none_is, number_kept, zero_none, applies_at, none_at}
 use Rattle.header.specs.declared.Header.{Header}
-use Rattle.message.specs.declared.Checked.{Checked}
 use Rattle.header.specs.Format.{query, request}
 use Rattle.header.specs.Header.{header_of, query_or_request, right_length, right_group, right_source, names_nothing, right_client}
 use Rattle.message.specs.Blocks.{Placed, blocks_of, standard_places, standards, standard_count, fills_message, standard_first, request_form, right_form}
 use Rattle.message.specs.Check.{drop_size, drop_blocks, message_rows}
 use Rattle.header.specs.Rows.{drop_type, drop_header, drop_hops, drop_group, drop_source, drop_pair, drop_client, header_rows}
-use Rattle.message.specs.Inside.{refused_message, accepted_message, check_of}
+use Rattle.message.specs.Inside.{Checked, refused_message, accepted_message, check_of}
 use Rattle.rows.specs.Rows.{NoneApplies, first_of}
 use Rattle.message.proofs.Turns.{standard_more}
 use Rattle.message.proofs.Append.{query_alone, request_formed}

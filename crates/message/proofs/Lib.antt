@@ -1,4 +1,5 @@
 -- The laws that other crates cite, in one place; and that each promise fixes its answer.
+pub mod Once
 pub mod Laws
 pub mod Determined
 -- Where they are proved.

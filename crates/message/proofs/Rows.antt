@@ -1,6 +1,6 @@
 -- The ways out of `right_form` and of `check`, each from the tests and the calls that led to it.
 use Prim.Native.Nat.{ℕ, ◌+◌, ◌-◌, ◌≤◌, ◌<◌, min}
-use mathlib.Core.Path.{◌≡◌, refl, sym, ◌∙◌}
+use mathlib.Core.Path.{◌≡◌, refl, sym, ap, ◌∙◌}
 use mathlib.Core.Bool.{Bool, true, false, not, ◌&&◌, ◌||◌, and-false}
 use mathlib.Core.List.{List, [], ◌∷◌, ◌++◌}
 use mathlib.Core.Logic.{⊎_elim}
@@ -13,7 +13,6 @@ use lib.Seq.{get_or-drop}
 use Rattle.wire.specs.Numbers.{byte_at}
 use Rattle.header.specs.declared.Header.{Header}
 use Rattle.message.specs.declared.Blocks.{Blocks}
-use Rattle.message.specs.declared.Checked.{Checked}
 use Rattle.header.specs.Format.{query}
 use Rattle.header.specs.Header.{header_of}
 use Rattle.message.specs.Blocks.{Placed, begins, blocks_of, total_size, blocks_end, standard_first, fills_message, right_form}
@@ -21,6 +20,9 @@ use Rattle.message.specs.Check.{drop_size, drop_blocks, message_rows}
 use Rattle.header.specs.Rows.{header_rows}
 use Rattle.message.specs.Inside.{blocks_seen, refused_message, accepted_message, check_of}
 use Rattle.rows.specs.Rows.{Row, row, by_first, first_of}
+use Rattle.refusal.specs.declared.Refusal.{Refusal}
+use Rattle.refusal.specs.Refusal.{number}
+use Rattle.refusal.proofs.Laws.{number_positive}
 use Rattle.rows.proofs.Laws.{given_by, none_by, decided, same_flag, one_of}
 use Rattle.message.proofs.Cut.{too_short, no_blocks_lem, block_first}
 use Rattle.format.specs.declared.Format.{Format}
@@ -80,14 +82,14 @@ module _ {F : Format} (sound : Sound F) where
 
   -- the rows of the table, each under those before it
   module _ (s : List ℕ) where
-    pub row_short : (r : Checked) → length s < F.header → r ≡ refused_message drop_size → r ≡ check_of F s
+    pub row_short : length s < F.header → refused_message drop_size ≡ check_of F s
     unfolding check_of message_rows by_first
-    row_short r h p = rw (lt-ltb _ _ h) p
+    row_short h = rw (lt-ltb _ _ h)
 
     module _ (low : F.header ≤ length s) where
-      pub row_long : (r : Checked) → F.most < length s → r ≡ refused_message drop_size → r ≡ check_of F s
+      pub row_long : F.most < length s → refused_message drop_size ≡ check_of F s
       unfolding check_of message_rows by_first
-      row_long r h p = rw (le-ltb _ _ low, lt-ltb _ _ h) p
+      row_long h = rw (le-ltb _ _ low, lt-ltb _ _ h)
 
       module _ (high : length s ≤ F.most) (h : Header) (n : ℕ) (eh : h ≡ header_of s) (en : n ≡ first_of (header_rows F h)) where
         -- the row on the form
@@ -98,17 +100,19 @@ module _ {F : Format} (sound : Sound F) where
         unfolding check_of message_rows by_first
         sized = rw (le-ltb _ _ low, le-ltb _ _ high, eh)
 
-        pub row-header : (r : Checked) → (n ≡ 0 → ⊥) → r ≡ refused_message n → r ≡ check_of F s
-        row-header r some p = p ∙ sym (sized ∙ given_by refused_message (accepted_message F s) (header_rows F h) last n en some)
+        pub row_header : (e : Refusal) → n ≡ number e → refused_message (number e) ≡ check_of F s
+        row_header e p =
+            let some : n ≡ 0 → ⊥ = λ z. absurd (omega (arith, number_positive e, p, z)) in
+            ap refused_message (sym p) ∙ sym (sized ∙ given_by refused_message (accepted_message F s) (header_rows F h) last n en some)
 
         module _ (zero : n ≡ 0) (f : Bool) (ef : f ≡ right_form F s) where
           formed : check_of F s ≡ by_first refused_message (accepted_message F s) last
           unfolding header_rows
           formed = sized ∙ none_by refused_message (accepted_message F s) (header_rows F h) last n en refl zero
 
-          pub row-blocks : (r : Checked) → not f ≡ true → r ≡ refused_message drop_blocks → r ≡ check_of F s
+          pub row_blocks : not f ≡ true → refused_message drop_blocks ≡ check_of F s
           unfolding by_first
-          row-blocks r t p = rw (formed, ← ef, t) p
+          row_blocks t = rw (formed, ← ef, t)
 
           pub row_none : (b : Blocks) → not f ≡ false → b ≡ blocks_seen F s → record { number = 0; header = h; blocks = b } ≡ check_of F s
           unfolding by_first accepted_message

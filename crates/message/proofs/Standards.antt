@@ -12,8 +12,7 @@ use lib.ListN.{length, get_or, drop, length-drop}
 use lib.Seq.{drop-drop}
 use Rattle.wire.specs.Numbers.{byte_at, be16}
 use Rattle.header.specs.Format.{standard}
-use Rattle.message.specs.declared.BlockHead.{BlockHead}
-use Rattle.message.specs.Inside.{block_at, standards_from, standard_at}
+use Rattle.message.specs.Inside.{Head, block_at, standards_from, standard_at}
 use Rattle.message.specs.Blocks.{Placed, placed_at, begins, blocks_from, blocks_of, total_size, standard_places, last_or, standards, standard_count, last_standard}
 use Rattle.rows.proofs.Laws.{decided}
 use Rattle.message.proofs.Cut.{begun, no_blocks_lem, block_first, by_blocks}
@@ -38,7 +37,7 @@ module _ {F : Format} (sound : Sound F) where
     places_same k = rw (block_first sound at rest b) (standard_same (placed_at at rest) behind k)
 
   -- the same from a place of a message on, by the block that stands there
-  module _ (s : List ℕ) (at : ℕ) (block : BlockHead) (b : block ≡ block_at F s at) where
+  module _ (s : List ℕ) (at : ℕ) (block : Head) (b : block ≡ block_at F s at) where
     pub standards_over : block.size ≡ 0 → standards_from F s at ≡ []
     unfolding standards_from
     standards_over z = no_places at (drop at s) (ends sound s at block b z)

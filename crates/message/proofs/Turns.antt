@@ -14,12 +14,16 @@ use lib.Seq.{drop-drop}
 use Rattle.wire.specs.Numbers.{byte_at, be16}
 use Rattle.rows.proofs.Laws.{decided}
 use Rattle.message.specs.declared.Blocks.{Blocks}
-use Rattle.message.specs.declared.BlockHead.{BlockHead}
-use Rattle.header.specs.Format.{standard, augmented}
+use Rattle.header.specs.Format.{standard}
 use Rattle.message.specs.Blocks.{Placed, begins, blocks_from, blocks_of, total_size, standard_places, last_or, standards, blocks_end}
-use Rattle.message.specs.Inside.{no_block, is_standard, augmented_size, block_at, blocks_seen}
+use Rattle.message.specs.Inside.{Head, no_block, head_of, is_standard, block_at, blocks_seen}
+use Rattle.std.specs.Prelude.{Option, Some, None}
+use Rattle.message.specs.declared.BlockHead.{BlockHead}
+use Rattle.header.specs.declared.BlockKind.TheVariants.{Standard}
+use denote.Enum.Bare.{sameb}
+use Rattle.header.specs.contracts.BlockKind.{the_type}
+use Rattle.message.proofs.Once.{typed, kind_told}
 use Rattle.message.proofs.Cut.{begun, no_blocks_lem, block_first}
-use Rattle.message.proofs.Heads.{head, standard_there, none_there, augmented_there}
 use Rattle.format.specs.declared.Format.{Format}
 use Rattle.format.specs.Sizes.{Sound, augmented_least}
 
@@ -54,7 +58,7 @@ joined_first block count last others =
 
 module _ {F : Format} (sound : Sound F) where
   -- what is known of the block at a place by its length, which is 0 where there is none
-  module _ (s : List ℕ) (at : ℕ) (block : BlockHead) (b : block ≡ block_at F s at) where
+  module _ (s : List ℕ) (at : ℕ) (block : Head) (b : block ≡ block_at F s at) where
     abbrev rest : List ℕ
     rest = drop at s
 
@@ -69,7 +73,7 @@ module _ {F : Format} (sound : Sound F) where
     pub ends : block.size ≡ 0 → begins F rest ≡ false
     ends z =
         ⊎_elim
-        (λ e. absurd (omega (arith, z, (begun sound rest e).least, ap (λ (h : BlockHead). h.size) (there e))))
+        (λ e. absurd (omega (arith, z, (begun sound rest e).least, ap (λ (h : Head). h.size) (there e))))
         (λ e. e)
         (decided (begins F rest))
 
@@ -78,10 +82,10 @@ module _ {F : Format} (sound : Sound F) where
 
     module _ (some : block.size ≡ 0 → ⊥) where
       pub starts : begins F rest ≡ true
-      starts = ⊎_elim (λ e. e) (λ e. absurd (some (ap (λ (h : BlockHead). h.size) (nowhere e)))) (decided (begins F rest))
+      starts = ⊎_elim (λ e. e) (λ e. absurd (some (ap (λ (h : Head). h.size) (nowhere e)))) (decided (begins F rest))
 
       size_there : block.size ≡ be16 rest 1
-      size_there = ap (λ (h : BlockHead). h.size) (there starts)
+      size_there = ap (λ (h : Head). h.size) (there starts)
 
       -- it is not empty, it lies within, and type 4 has its size
       size_least : augmented_least ≤ block.size
@@ -94,7 +98,7 @@ module _ {F : Format} (sound : Sound F) where
       moves_on h = omega (arith, size_least, size_inside h)
 
       pub size_standard : eqb block.kind standard ≡ true → block.size ≡ F.block
-      size_standard e = size_there ∙ (begun sound rest starts).standard_size (ap (λ (h : BlockHead). h.kind) (sym (there starts)) ∙ eqb-true block.kind standard e)
+      size_standard e = size_there ∙ (begun sound rest starts).standard_size (ap (λ (h : Head). h.kind) (sym (there starts)) ∙ eqb-true block.kind standard e)
 
       -- the blocks from here on: that one, and those behind it
       pub blocks_on : blocks_from F at rest ≡ record { at = at; kind = block.kind; size = block.size } ∷ blocks_from F (at + block.size) (drop (at + block.size) s)
@@ -104,46 +108,48 @@ module _ {F : Format} (sound : Sound F) where
 
     -- the walk over them
     module _ (count last : ℕ) (so_far : blocks_seen F s ≡ joined at count last (blocks_from F at rest)) where
-      over : block.size ≡ 0 → record { end = at; count = count; last = last } ≡ blocks_seen F s
+      pub over : block.size ≡ 0 → record { end = at; count = count; last = last } ≡ blocks_seen F s
       unfolding joined total_size standard_places last_or
       over z = rw (so_far, blocks_over z, add-zero, add-zero)
 
-      on : (block.size ≡ 0 → ⊥)
+      pub on : (block.size ≡ 0 → ⊥)
           → blocks_seen F s
           ≡ joined (at + block.size) (cond (is_standard block) (count + 1) count) (cond (is_standard block) at last) (blocks_from F (at + block.size) (drop (at + block.size) s))
       on some = rw (so_far, blocks_on some, joined_first (record { at = at; kind = block.kind; size = block.size }) count last _)
 
-  -- the walk by the answers of `standard_at` and `augmented_at`
-  module _ (s : List ℕ) (at : ℕ) (one : Bool) (o : one ≡ is_standard (block_at F s at)) where
-    module _ (e : one ≡ true) where
-      some : F.block ≡ 0 → ⊥
-      some z = omega arith
+  -- a block that is read has a type, and so a length
+  module _ (s : List ℕ) (at : ℕ) (block : BlockHead) (b : head_of (Some block) ≡ block_at F s at) where
+    some_size : block.size ≡ 0 → ⊥
+    some_size z = typed block.kind (ap (λ (h : Head). h.kind) (b ∙ nowhere s at (block_at F s at) refl (ends s at (head_of (Some block)) b z)))
 
-      pub standard_inside : at ≤ length s → at + F.block ≤ length s
-      standard_inside = size_inside s at (head standard F.block) (standard_there sound s at one o e) some
+    pub block_some : 0 < block.size
+    block_some = omega (arith, size_least s at (head_of (Some block)) b some_size)
 
-      pub standard_moves : at ≤ length s → length s - (at + F.block) < length s - at
-      standard_moves = moves_on s at (head standard F.block) (standard_there sound s at one o e) some
+    pub block_inside : at ≤ length s → at + block.size ≤ length s
+    block_inside = size_inside s at (head_of (Some block)) b some_size
 
-      pub standard_on : (count last : ℕ) → blocks_seen F s ≡ joined at count last (blocks_from F at (drop at s))
-          → blocks_seen F s ≡ joined (at + F.block) (count + 1) at (blocks_from F (at + F.block) (drop (at + F.block) s))
-      standard_on count last so_far = on s at (head standard F.block) (standard_there sound s at one o e) count last so_far some
+    pub block_moves : at ≤ length s → length s - (at + block.size) < length s - at
+    block_moves = moves_on s at (head_of (Some block)) b some_size
 
-    module _ (e : one ≡ false) (size : ℕ) (z : size ≡ augmented_size (block_at F s at)) where
-      pub stopped : (count last : ℕ) → blocks_seen F s ≡ joined at count last (blocks_from F at (drop at s)) → size ≡ 0
-          → record { end = at; count = count; last = last } ≡ blocks_seen F s
-      stopped count last so_far none = over s at no_block (none_there sound s at one o e size z none) count last so_far refl
+    -- one of type 4 is counted, any other is passed over
+    module _ (one : Bool) (told : one ≡ sameb the_type block.kind Standard) (count last : ℕ)
+        (so_far : blocks_seen F s ≡ joined at count last (blocks_from F at (drop at s))) where
+      abbrev behind : List Placed
+      behind = blocks_from F (at + block.size) (drop (at + block.size) s)
 
-      module _ (some : size ≡ 0 → ⊥) where
-        pub augmented_inside : at ≤ length s → at + size ≤ length s
-        augmented_inside = size_inside s at (head augmented size) (augmented_there sound s at one o e size z some) some
+      walk_on : blocks_seen F s ≡ joined (at + block.size) (cond one (count + 1) count) (cond one at last) behind
+      walk_on = rw (told ∙ kind_told block.kind) (on s at (head_of (Some block)) b count last so_far some_size)
 
-        pub augmented_moves : at ≤ length s → length s - (at + size) < length s - at
-        augmented_moves = moves_on s at (head augmented size) (augmented_there sound s at one o e size z some) some
+      pub walk_counted : one ≡ true → blocks_seen F s ≡ joined (at + block.size) (count + 1) at behind
+      walk_counted e = rw e at walk_on
 
-        pub augmented_on : (count last : ℕ) → blocks_seen F s ≡ joined at count last (blocks_from F at (drop at s))
-            → blocks_seen F s ≡ joined (at + size) count last (blocks_from F (at + size) (drop (at + size) s))
-        augmented_on count last so_far = on s at (head augmented size) (augmented_there sound s at one o e size z some) count last so_far some
+      pub walk_passed : one ≡ false → blocks_seen F s ≡ joined (at + block.size) count last behind
+      walk_passed e = rw e at walk_on
+
+  -- and where none is read the walk is over
+  pub walk_over : (s : List ℕ) (at : ℕ) (block : Option BlockHead) → head_of block ≡ block_at F s at → block ≡ None → (count last : ℕ)
+      → blocks_seen F s ≡ joined at count last (blocks_from F at (drop at s)) → record { end = at; count = count; last = last } ≡ blocks_seen F s
+  walk_over s at block b none count last so_far = over s at (head_of block) b count last so_far (ap (λ (o : Option BlockHead). (head_of o).size) none)
 
   -- where the walk begins nothing was found yet
   pub at_first : (s : List ℕ) → blocks_seen F s ≡ joined F.header 0 0 (blocks_from F F.header (drop F.header s))

@@ -14,9 +14,8 @@ use Rattle.wire.specs.Numbers.{byte_at, be16}
 use Rattle.wire.proofs.Laws.{be-drop}
 use Rattle.rows.proofs.Laws.{decided}
 use Rattle.header.specs.Format.{header_size, standard, standard_size}
-use Rattle.message.specs.declared.BlockHead.{BlockHead}
 use Rattle.message.specs.Blocks.{begins, blocks_of, total_size, blocks_end}
-use Rattle.message.specs.Inside.{block_at, standards_from}
+use Rattle.message.specs.Inside.{Head, block_at, standards_from}
 use Rattle.message.proofs.Laws.{there, begun, no_blocks_lem, blocks_on, standards_more, standards_same, size_standard, first_low}
 use Rattle.reply.specs.Inside.{first_or, Settled, FillsFrom}
 use Rattle.reply.proofs.Places.{end_none, settled_more}
@@ -40,20 +39,20 @@ module _ (s : List ℕ) (at : ℕ) (f : FillsFrom s at) where
         over e = absurd (omega (arith, ap total_size (no_blocks_lem ipv4_sound at (drop at s) e), f))
 
     -- the block, and what its first bytes say of it
-    abbrev block : BlockHead
+    abbrev block : Head
     block = block_at ipv4 s at
 
     head : block ≡ record { kind = byte_at (drop at s) 0; size = be16 (drop at s) 1 }
     head = there ipv4_sound s at block refl begins_there
 
     pub kind_read : block.kind ≡ byte_at s at
-    kind_read = ap (λ (h : BlockHead). h.kind) head ∙ get_or-drop at s 0 0 ∙ ap (byte_at s) (add-zero at)
+    kind_read = ap (λ (h : Head). h.kind) head ∙ get_or-drop at s 0 0 ∙ ap (byte_at s) (add-zero at)
 
     pub size_read : block.size ≡ be16 s (at + 1)
-    size_read = ap (λ (h : BlockHead). h.size) head ∙ be-drop 1 s at 1
+    size_read = ap (λ (h : Head). h.size) head ∙ be-drop 1 s at 1
 
     pub not_empty : block.size ≡ 0 → ⊥
-    not_empty z = omega (arith, z, ap (λ (h : BlockHead). h.size) head, (begun ipv4_sound (drop at s) begins_there).least)
+    not_empty z = omega (arith, z, ap (λ (h : Head). h.size) head, (begun ipv4_sound (drop at s) begins_there).least)
 
     pub head_inside : at + 1 + 2 ≤ length s
     head_inside = omega (arith, (begun ipv4_sound (drop at s) begins_there).least, (begun ipv4_sound (drop at s) begins_there).inside, length-drop at s)

@@ -7,8 +7,7 @@ use native.Mathlib.Omega.{arith}
 use borrow.Author.Tests.{eq-eqb, ne_eqb}
 use lib.ListN.{length, get_or}
 use Rattle.header.specs.Format.{standard, standard_size}
-use Rattle.message.specs.declared.BlockHead.{BlockHead}
-use Rattle.message.specs.Inside.{no_block, block_at, standards_from}
+use Rattle.message.specs.Inside.{Head, no_block, block_at, standards_from}
 use Rattle.message.proofs.Laws.{standards_over, standards_more, standards_same, none_short, first_inside}
 use Rattle.standard.specs.declared.Standard.{Standard}
 use Rattle.standard.specs.Standard.{standard_in, no_standard}
@@ -16,7 +15,7 @@ use Rattle.reply.specs.Reader.{handed_by, next_from}
 use Rattle.reply.specs.Inside.{first_or}
 use Rattle.format.specs.Sizes.{ipv4, ipv4_sound}
 
-module _ (s : List ℕ) (place at : ℕ) (block : BlockHead) (b : block ≡ block_at ipv4 s at) (so_far : standards_from ipv4 s place ≡ standards_from ipv4 s at) where
+module _ (s : List ℕ) (place at : ℕ) (block : Head) (b : block ≡ block_at ipv4 s at) (so_far : standards_from ipv4 s place ≡ standards_from ipv4 s at) where
   pub found_none : block.size ≡ 0 → length s ≡ first_or (length s) (standards_from ipv4 s place)
   unfolding first_or
   found_none z = rw (so_far, standards_over ipv4_sound s at block b z)

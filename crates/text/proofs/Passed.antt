@@ -13,8 +13,7 @@ use Rattle.rows.proofs.Laws.{decided}
 use Rattle.wire.specs.Parts.{part}
 use Rattle.header.specs.Format.{header_size, most, standard, standard_size}
 use Rattle.message.specs.Blocks.{standards, standard_blocks}
-use Rattle.message.specs.Inside.{block_at, standards_from}
-use Rattle.message.specs.declared.BlockHead.{BlockHead}
+use Rattle.message.specs.Inside.{Head, block_at, standards_from}
 use Rattle.message.proofs.Laws.{all_standards, none_short, standards_more, standards_same, standards_over, size_inside, size_standard}
 use Rattle.text.specs.Text.{line_of, lines_of, most_line, most_lines}
 use Rattle.text.specs.Inside.{Written}
@@ -57,7 +56,7 @@ module _ (m text : List ℕ) (from : ℕ) where
 
   module _
       (text' : List ℕ) (at count next : ℕ) (so_far : SoFar m text from text' at count next) (short : length m ≤ most)
-      (block : BlockHead) (b : block ≡ block_at ipv4 m at)
+      (block : Head) (b : block ≡ block_at ipv4 m at)
     where
       -- behind the last block all are
       pub all_lines : block.size ≡ 0 → Written (lines_of 1 (standard_blocks ipv4 m)) most_lines from text text' next

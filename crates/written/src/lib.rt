@@ -43,7 +43,7 @@ pub fn block_bytes(b: Block) -> [u8; format::STANDARD_SIZE]
 {
     let f = b.filled;
     let mut a = [0u8; format::STANDARD_SIZE];
-    a[0] = header::STANDARD;
+    a[0] = BlockKind::Standard as u8;
     a[2] = format::STANDARD_SIZE as u8;
     wire::put32(&mut a, 4, b.time);
     wire::put32(&mut a, 8, f.incoming);

@@ -91,7 +91,7 @@ module _ (F : Format) where
     pub holder_is : HolderIs F yard address (holder_in F yard address)
     holder_is = searched_is (holder_in F yard address) searched_all
 
-    same_interface : (i j k l : ℕ) → i ≡ j → LowestHolder F yard address i k → LowestHolder F yard address j l → Some (i, k) ≡ Some (j, l)
+    same_interface : (i j k l : ℕ) → i ≡ j → LowestHolder F yard address i k → LowestHolder F yard address j l → ◌≡◌ {A = Option (ℕ × ℕ)} (Some (i, k)) (Some (j, l))
     same_interface i j k l e p q =
         let r : LowestHolder F yard address i l = rw e q in
         let low : l ≤ k = at_least k l (λ h. r.lowest_here k h p.holds) in

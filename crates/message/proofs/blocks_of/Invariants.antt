@@ -8,8 +8,8 @@ use Rattle.message.specs.Inside.{blocks_seen}
 use Rattle.message.proofs.Turns.{joined}
 use Rattle.message.proofs.blocks_of.Given as goal
 
-abbrev pub invariant-loop-last : goal.invariant-loop-last
-invariant-loop-last l = (l.at ≤ length l.s) × (l.count ≤ l.at) × (blocks_seen l.f l.s ≡ joined l.at l.count l.last (blocks_from l.f l.at (drop l.at l.s)))
+abbrev pub invariant-loop-block : goal.invariant-loop-block
+invariant-loop-block l = (l.at ≤ length l.s) × (l.count ≤ l.at) × (blocks_seen l.f l.s ≡ joined l.at l.count l.last (blocks_from l.f l.at (drop l.at l.s)))
 
-abbrev pub decreases-loop-last : goal.decreases-loop-last
-decreases-loop-last l = length l.s - l.at
+abbrev pub decreases-loop-block : goal.decreases-loop-block
+decreases-loop-block l = length l.s - l.at
