@@ -1,7 +1,7 @@
 -- Two answers that meet what a function ensures are equal.
-use mathlib.Core.Path.{◌≡◌}
-use Rattle.rows.proofs.Laws.{both_are}
-use Rattle.forwarding.proofs.code_of.Reads as code_of_lem
+use mathlib.Core.Path.{◌≡◌, sym, ◌∙◌}
+use Rattle.forwarding.proofs.Codes.{one_byte}
+use Rattle.forwarding.proofs.code_of.Reads as code_of
 
-pub code_of_determined : (κs : _) (a : _) (x y : _) (e f : _) → code_of_lem.Post κs a x e → code_of_lem.Post κs a y f → x ≡ y
-code_of_determined κs a x y e f p q = both_are p q
+pub code_of_determined : (κs : _) (a : _) (x y : _) (e f : _) → code_of.Post κs a x e → code_of.Post κs a y f → x ≡ y
+code_of_determined κs a x y e f p q = one_byte x y (p ∙ sym q)

@@ -6,6 +6,8 @@ use Rattle.route_entry.specs.declared.Route.{Route}
 use Rattle.interface.specs.Interface.{is_multicast, is_boundary}
 use Rattle.route_entry.specs.Route.{is_rp, prune_sent, in_map}
 use Rattle.forwarding.specs.declared.View.{View}
+use Rattle.forwarding.specs.declared.Code.{Code}
+use Rattle.forwarding.specs.declared.Code.TheVariants.{NoError, WrongIf, PruneSent, PruneRcvd, Scoped, NoRoute, WrongLastHop, NotForwarding, ReachedRp, RpfIf, NoMulticast, NoSpace, AdminProhib}
 use Rattle.forwarding.specs.View.{boundary_on}
 
 -- the codes, by their names in RFC 8487
@@ -47,6 +49,22 @@ code_no_space = 129
 
 abbrev pub code_admin_prohib : ℕ
 code_admin_prohib = 131
+
+-- the byte of each
+abbrev pub byte_of : Code → ℕ
+byte_of NoError = code_no_error
+byte_of WrongIf = code_wrong_if
+byte_of PruneSent = code_prune_sent
+byte_of PruneRcvd = code_prune_rcvd
+byte_of Scoped = code_scoped
+byte_of NoRoute = code_no_route
+byte_of WrongLastHop = code_wrong_last_hop
+byte_of NotForwarding = code_not_forwarding
+byte_of ReachedRp = code_reached_rp
+byte_of RpfIf = code_rpf_if
+byte_of NoMulticast = code_no_multicast
+byte_of NoSpace = code_no_space
+byte_of AdminProhib = code_admin_prohib
 
 -- a Query, and this is not the proper last hop
 abbrev pub wrong_last_hop : View → Bool

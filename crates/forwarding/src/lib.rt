@@ -5,38 +5,37 @@ ghost use Rattle.std.specs.Prelude.{◌≡◌, ◌<◌};
 ghost use Rattle.interface.specs.Interface.{most_interfaces};
 ghost use Rattle.forwarding.specs.View.{boundary_on};
 ghost use Rattle.rows.specs.Rows.{first_of};
-ghost use Rattle.forwarding.specs.Code.{scoped, codes_for, code_of};
+ghost use Rattle.forwarding.specs.Code.{byte_of, scoped, codes_for, code_of};
 ghost use Rattle.forwarding.specs.Inside.{late_codes};
 
 use interface::Interface;
 use route_entry::Route;
 
-// The forwarding codes.
-const CODE_NO_ERROR: u8 = 0;
+// The forwarding codes, each by its byte.
+#[derive(Clone, Copy, Debug, PartialEq, Eq)]
+pub enum Code {
+    NoError = 0,
+    WrongIf = 1,
+    PruneSent = 2,
+    PruneRcvd = 3,
+    Scoped = 4,
+    NoRoute = 5,
+    WrongLastHop = 6,
+    NotForwarding = 7,
+    ReachedRp = 8,
+    RpfIf = 9,
+    NoMulticast = 10,
+    NoSpace = 129,
+    AdminProhib = 131,
+}
 
-const CODE_WRONG_IF: u8 = 1;
+impl From<Code> for u8 {
+    ghost from_gives = { λ code byte. byte ≡ byte_of code };
 
-const CODE_PRUNE_SENT: u8 = 2;
-
-const CODE_PRUNE_RCVD: u8 = 3;
-
-const CODE_SCOPED: u8 = 4;
-
-const CODE_NO_ROUTE: u8 = 5;
-
-const CODE_WRONG_LAST_HOP: u8 = 6;
-
-const CODE_NOT_FORWARDING: u8 = 7;
-
-const CODE_REACHED_RP: u8 = 8;
-
-const CODE_RPF_IF: u8 = 9;
-
-const CODE_NO_MULTICAST: u8 = 10;
-
-const CODE_ADMIN_PROHIB: u8 = 131;
-
-pub const CODE_NO_SPACE: u8 = 129;
+    fn from(code: Code) -> u8 {
+        code as u8
+    }
+}
 
 // The first octet of the groups that a boundary keeps in: 239.0.0.0/8.
 const SCOPED_OCTET: u32 = 239;
@@ -74,66 +73,69 @@ fn in_scope(v: View) -> bool
 
 // The first code from SCOPED on that applies, where a route was chosen. It takes of the view what it looks at: a view lent whole
 // would have to be written to memory first.
-fn late_code(scoped: bool, r: Route, number: usize) -> u8
+#[tactic(auto, using(rows::proofs::Laws::first), unfolding(rows::specs::Rows::by_first))]
+fn late_code(scoped: bool, r: Route, number: usize) -> Code
     requires { number < most_interfaces }
-    ensures { result ≡ first_of (late_codes scoped r number) }
+    ensures { byte_of result ≡ first_of (late_codes scoped r number) }
 {
     let sent = route_entry::prune_sent(r);
     if scoped {
-        return CODE_SCOPED;
+        return Code::Scoped;
     }
     if sent {
-        return CODE_PRUNE_SENT;
+        return Code::PruneSent;
     }
     if route_entry::in_map(r.pruned, number) {
-        return CODE_PRUNE_RCVD;
+        return Code::PruneRcvd;
     }
     if route_entry::in_map(r.stopped, number) {
-        return CODE_NOT_FORWARDING;
+        return Code::NotForwarding;
     }
-    CODE_NO_ERROR
+    Code::NoError
 }
 
 // The first code that applies, where a route was chosen.
-fn code_on(v: View, r: Route) -> u8
+#[tactic(auto, using(rows::proofs::Laws::first, crate::proofs::Rows::late_told), unfolding(rows::specs::Rows::by_first))]
+fn code_on(v: View, r: Route) -> Code
     requires { v.number < most_interfaces }
-    ensures { result ≡ first_of (codes_for v (Some r)) }
+    ensures { byte_of result ≡ first_of (codes_for v (Some r)) }
 {
     if v.query & !v.proper {
-        return CODE_WRONG_LAST_HOP;
+        return Code::WrongLastHop;
     }
     if route_entry::is_rp(r) {
-        return CODE_REACHED_RP;
+        return Code::ReachedRp;
     }
     if v.prohibited {
-        return CODE_ADMIN_PROHIB;
+        return Code::AdminProhib;
     }
     if !interface::is_multicast(v.here) {
-        return CODE_NO_MULTICAST;
+        return Code::NoMulticast;
     }
     if v.number == r.incoming as u32 {
-        return CODE_RPF_IF;
+        return Code::RpfIf;
     }
     let number = v.number as usize;
     if !route_entry::in_map(r.forward, number) {
-        return CODE_WRONG_IF;
+        return Code::WrongIf;
     }
     late_code(in_scope(v), r, number)
 }
 
 // The first code that applies.
-pub fn code_of(v: View) -> u8
+#[tactic(auto, using(crate::proofs::Rows::code_none_wrong, crate::proofs::Rows::code_none))]
+pub fn code_of(v: View) -> Code
     requires { v.number < most_interfaces }
-    ensures { result ≡ code_of v }
+    ensures { byte_of result ≡ code_of v }
 {
     let chosen = v.chosen;
     match chosen {
         Some(r) => code_on(v, r),
         None => {
             if v.query & !v.proper {
-                return CODE_WRONG_LAST_HOP;
+                return Code::WrongLastHop;
             }
-            CODE_NO_ROUTE
+            Code::NoRoute
         }
     }
 }

@@ -4,6 +4,8 @@
 ghost use Rattle.std.specs.Prelude.{◌≡◌};
 ghost use Rattle.written.specs.Bytes.{block_bytes, note_bytes};
 
+use header::BlockKind;
+
 // The fields that come from the route; `mask` is S and the source mask, as one byte.
 #[derive(Drop)]
 pub struct Filled {
