@@ -7,9 +7,10 @@ use native.Mathlib.Omega.{arith}
 use Rattle.rows.proofs.Laws.{cond_cases}
 use Rattle.format.specs.declared.Format.{Format}
 use Rattle.interface.specs.Interface.{most_interfaces}
-use Rattle.sheet.specs.Sheet.{valid_sheet, no_layout, counted, layout_of}
+use Rattle.sheet.specs.Sheet.{valid_sheet, no_layout, counted, layout_of, told_of}
 use Rattle.sheet.specs.declared.Layout.{Layout}
 use Rattle.sheet.proofs.Valid.{valid}
+use Rattle.std.specs.Prelude.{Option, Some, None, is_some}
 
 -- what holds of the counts of a valid sheet, and of no counts for any other, holds of the layout
 pub layout_cases : (F : Format) (P : Layout → Type 0) (s : List ℕ) → (valid_sheet F s ≡ true → P (counted F s)) → (valid_sheet F s ≡ false → P no_layout) → P (layout_of F s)
@@ -20,9 +21,19 @@ pub layout_valid : (F : Format) (s : List ℕ) → valid_sheet F s ≡ true → 
 unfolding layout_of
 layout_valid F s e = rw e
 
-pub valid_told : (F : Format) (s : List ℕ) → (layout_of F s).valid ≡ valid_sheet F s
-unfolding counted
-valid_told F s = layout_cases F (λ (l : Layout). l.valid ≡ valid_sheet F s) s sym sym
+-- what the check answers: the layout of a valid sheet, and nothing of any other
+pub told_cases : (F : Format) (P : Option Layout → Type 0) (s : List ℕ) → (valid_sheet F s ≡ true → P (Some (layout_of F s))) → (valid_sheet F s ≡ false → P None) → P (told_of F s)
+unfolding told_of layout_of
+told_cases F P s some none = cond_cases P (valid_sheet F s) (Some (counted F s)) None (λ e. rw e at (some e)) none
+
+pub valid_told : (F : Format) (s : List ℕ) → is_some (told_of F s) ≡ valid_sheet F s
+valid_told F s = told_cases F (λ (o : Option Layout). is_some o ≡ valid_sheet F s) s sym sym
+
+pub told_some : (F : Format) (s : List ℕ) (l : Layout) → told_of F s ≡ Some l → (valid_sheet F s ≡ true) × (l ≡ layout_of F s)
+told_some F s l = told_cases F (λ (o : Option Layout). o ≡ Some l → (valid_sheet F s ≡ true) × (l ≡ layout_of F s)) s (λ e q. (e, cc)) (λ e q. cc)
+
+pub told_none : (F : Format) (s : List ℕ) → told_of F s ≡ None → valid_sheet F s ≡ false
+told_none F s = told_cases F (λ (o : Option Layout). o ≡ None → valid_sheet F s ≡ false) s (λ e q. cc) (λ e q. e)
 
 -- where something is counted the sheet is valid
 counts_valid : (F : Format) (s : List ℕ) (count : Layout → ℕ) (i : ℕ) → count no_layout ≡ 0 → i < count (layout_of F s) → valid_sheet F s ≡ true

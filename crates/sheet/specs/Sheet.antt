@@ -1,6 +1,6 @@
 -- A valid sheet: 1 to 16 blocks of 512 bytes, interface blocks first, at least one, then route blocks; only the last block of
 -- a kind may be partly filled; at most 64 interfaces.
-use Rattle.std.specs.Prelude.{ℕ, zero, suc, ◌+◌, ◌*◌, ◌-◌, ◌/◌, Bool, true, false, ◌&&◌, cond, List, leb, ltb, eqb, length}
+use Rattle.std.specs.Prelude.{ℕ, zero, suc, ◌+◌, ◌*◌, ◌-◌, ◌/◌, Bool, ◌&&◌, cond, List, leb, ltb, eqb, length, Option, Some, None}
 use Rattle.wire.specs.Parts.{part, whole_parts}
 use Rattle.block.specs.Block.{block_size, kind_of, used_in, entries_each}
 use Rattle.format.specs.declared.Format.{Format}
@@ -67,14 +67,18 @@ unfoldable pub valid_sheet : Format → List ℕ → Bool
 valid_sheet F s =
     sheet_size_ok (length s) && leb 1 (interface_blocks s) && leb (interfaces_in F s) most_interfaces && every (block_ok_at F s) (blocks s)
 
--- what is told of a sheet that breaks a rule: nothing
+-- the counts of a sheet that breaks a rule: none
 abbrev pub no_layout : Layout
-no_layout = record { valid = false; blocks = 0; interfaces = 0; routes = 0 }
+no_layout = record { blocks = 0; interfaces = 0; routes = 0 }
 
--- what is told of one that keeps them all: how many interface blocks, interfaces and routes it has
+-- the counts of one that keeps them all: how many interface blocks, interfaces and routes it has
 unfoldable pub counted : Format → List ℕ → Layout
-counted F s = record { valid = true; blocks = interface_blocks s; interfaces = interfaces_in F s; routes = routes_in F s }
+counted F s = record { blocks = interface_blocks s; interfaces = interfaces_in F s; routes = routes_in F s }
 
--- what the check answers
+-- and of any sheet
 unfoldable pub layout_of : Format → List ℕ → Layout
 layout_of F s = cond (valid_sheet F s) (counted F s) no_layout
+
+-- what the check answers: the counts of a sheet that keeps all rules, and nothing of any other
+unfoldable pub told_of : Format → List ℕ → Option Layout
+told_of F s = cond (valid_sheet F s) (Some (counted F s)) None

@@ -7,7 +7,7 @@ ghost use Rattle.block.specs.Block.{block_size, entries_room};
 ghost use Rattle.format.specs.Sizes.{Sound, ipv4};
 ghost use Rattle.interface.specs.Interface.{most_interfaces};
 ghost use Rattle.sheet_block.specs.Every.{every};
-ghost use Rattle.sheet.specs.Sheet.{most_blocks, sheet_size_ok, blocks, sheet_block, entries_in, interface_block_ok, route_block_ok, block_ok_with, no_layout, layout_of};
+ghost use Rattle.sheet.specs.Sheet.{most_blocks, sheet_size_ok, blocks, sheet_block, entries_in, interface_block_ok, route_block_ok, block_ok_with, told_of};
 ghost use Rattle.sheet.specs.Inside.{Leading};
 
 use format::Format;
@@ -16,10 +16,9 @@ use sheet_block::{INTERFACE_KIND, interface_block_ok, route_block_ok, wide};
 // The most blocks of a sheet.
 const MOST_BLOCKS: usize = 16;
 
-// What the check tells of a sheet: whether it is valid, and how many interface blocks, interfaces and routes it has.
+// What a valid sheet holds: how many interface blocks, interfaces and routes.
 #[derive(Clone, Copy)]
 pub struct Layout {
-    pub valid: bool,
     pub blocks: usize,
     pub interfaces: usize,
     pub routes: usize,
@@ -144,43 +143,30 @@ fn blocks_ok(f: Format, s: &[u8], m: usize, interfaces: u16) -> bool
     route_blocks_ok(f, s, m, interfaces)
 }
 
-// What is told of a sheet that breaks a rule.
-fn refuse() -> Layout
-    ensures { result ≡ no_layout }
-{
-    Layout {
-        valid: false,
-        blocks: 0,
-        interfaces: 0,
-        routes: 0,
-    }
-}
-
 // Whether any bytes at all are a valid sheet, and what it holds. What is cheap to refuse comes first. The sizes are named here, and handed
 // down from here: engine and walk both ask, and each size that came from them would be a number in memory.
-pub fn check(s: &[u8]) -> Layout
-    ensures { result ≡ layout_of ipv4 s.now }
+pub fn check(s: &[u8]) -> Option<Layout>
+    ensures { result ≡ told_of ipv4 s.now }
 {
     let f = format::IPV4;
     if !size_ok(s.len()) {
-        return refuse();
+        return None;
     }
     let n = s.len() / block::BLOCK_SIZE;
     let m = interface_blocks(s, n);
     if m == 0 {
-        return refuse();
+        return None;
     }
     let interfaces = entries(s, block::ENTRIES_ROOM / f.interface, 0, m);
     if interface::MOST_INTERFACES < interfaces {
-        return refuse();
+        return None;
     }
     if !blocks_ok(f, s, m, interfaces as u16) {
-        return refuse();
+        return None;
     }
-    Layout {
-        valid: true,
+    Some(Layout {
         blocks: m,
         interfaces,
         routes: entries(s, block::ENTRIES_ROOM / f.route, m, n - m),
-    }
+    })
 }

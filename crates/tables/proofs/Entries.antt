@@ -1,5 +1,5 @@
 -- What holds of every sheet's tables as the layout counts them: each interface and each route keeps its rules and lies within
--- the sheet. A noLayout sheet has none.
+-- the sheet. A sheet that is not valid has none.
 use Prim.Native.Nat.{ℕ, ◌+◌, ◌*◌, ◌-◌, ◌/◌, ◌%◌, ◌≤◌, ◌<◌}
 use mathlib.Core.Bool.{true}
 use mathlib.Core.List.{List}

@@ -17,11 +17,11 @@ use Rattle.interface.specs.Interface.{most_interfaces, interface_at}
 use Rattle.interface.specs.declared.Interface.{Interface}
 use Rattle.sheet_block.specs.Every.{listed}
 use Rattle.sheet_block.specs.Rules.{prohibits}
-use Rattle.sheet.specs.Sheet.{most_blocks, interface_blocks, counted, layout_of}
+use Rattle.sheet.specs.Sheet.{most_blocks, interface_blocks, valid_sheet, counted, layout_of}
 use Rattle.tables.specs.Tables.{place_of, interface_of, route_place, route_of, interfaces_of, prohibited_of, holder_from, holder_of}
 use Rattle.tables.specs.Inside.{routes_beside, Beside}
 use Rattle.sheet.specs.declared.Layout.{Layout}
-use Rattle.sheet.proofs.Laws.{valid, layout_valid, valid_told, interface_few, route_valid}
+use Rattle.sheet.proofs.Laws.{valid, layout_valid, interface_few, route_valid}
 use Rattle.tables.proofs.Places.{some_room, place_low, in_row}
 use Rattle.tables.proofs.Entries.{interface_bytes_lem, route_bytes_lem, route_keeps}
 use Rattle.std.specs.Prelude.{Option, Some, None}
@@ -94,8 +94,8 @@ module _ {F : Format} (sound : Sound F) where
         }
 
 -- the switches
-pub valid_long : (F : Format) (s : List ℕ) → (layout_of F s).valid ≡ true → block_size ≤ length s
-valid_long F s e = let v = valid F s (sym (valid_told F s) ∙ e) in omega (arith, v.size.whole, v.size.some)
+pub valid_long : (F : Format) (s : List ℕ) → valid_sheet F s ≡ true → block_size ≤ length s
+valid_long F s e = let v = valid F s e in omega (arith, v.size.whole, v.size.some)
 
 pub switches_read : (s : List ℕ) (x : ℕ) → x ≡ be16 s switches_at → eqb x prohibits ≡ prohibited_of s
 unfolding prohibited_of
