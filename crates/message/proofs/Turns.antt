@@ -140,11 +140,12 @@ module _ {F : Format} (sound : Sound F) where
       walk_on : blocks_seen F s ≡ joined (at + block.size) (cond one (count + 1) count) (cond one at last) behind
       walk_on = rw (told ∙ kind_told block.kind) (on s at (head_of (Some block)) b count last so_far some_size)
 
-      pub walk_counted : one ≡ true → blocks_seen F s ≡ joined (at + block.size) (count + 1) at behind
-      walk_counted e = rw e at walk_on
+      module _ (n l : ℕ) where
+        pub walk_counted : one ≡ true → n ≡ count + 1 → l ≡ at → blocks_seen F s ≡ joined (at + block.size) n l behind
+        walk_counted e counted here = rw (counted, here) (rw e at walk_on)
 
-      pub walk_passed : one ≡ false → blocks_seen F s ≡ joined (at + block.size) count last behind
-      walk_passed e = rw e at walk_on
+        pub walk_passed : one ≡ false → n ≡ count → l ≡ last → blocks_seen F s ≡ joined (at + block.size) n l behind
+        walk_passed e same before = rw (same, before) (rw e at walk_on)
 
   -- and where none is read the walk is over
   pub walk_over : (s : List ℕ) (at : ℕ) (block : Option BlockHead) → head_of block ≡ block_at F s at → block ≡ None → (count last : ℕ)

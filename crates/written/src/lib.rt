@@ -7,7 +7,7 @@ ghost use Rattle.written.specs.Bytes.{block_bytes, note_bytes};
 use header::BlockKind;
 
 // The fields that come from the route; `mask` is S and the source mask, as one byte.
-#[derive(Drop)]
+#[derive(Clone, Copy, Default)]
 pub struct Filled {
     pub incoming: u32,
     pub upstream: u32,
@@ -19,7 +19,7 @@ pub struct Filled {
 }
 
 // The fields of a Standard Response Block.
-#[derive(Drop)]
+#[derive(Clone, Copy)]
 pub struct Block {
     pub time: u32,
     pub outgoing: u32,
@@ -30,7 +30,7 @@ pub struct Block {
 }
 
 // The fields of an answer record.
-#[derive(Drop)]
+#[derive(Clone, Copy)]
 pub struct Note {
     pub length: u16,
     pub destination: u32,

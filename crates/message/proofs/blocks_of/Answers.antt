@@ -14,6 +14,6 @@ loop-block-preserved c =
     let some = block_some c.requires.sound _ _ c.in-Some.block b in
     let inside = block_inside c.requires.sound _ _ c.in-Some.block b held.0 in
     elim c.if-eq.branch [
-      | then-eq w ↦ rw (w.count-is, w.last-is) (inside, omega (arith, held.1, some), walk_counted c.requires.sound _ _ c.in-Some.block b _ c.eq.ensures _ _ held.2 w.if-eq.true)
-      | else-eq w ↦ rw (w.count-is, w.last-is) (inside, omega (arith, held.1, some), walk_passed c.requires.sound _ _ c.in-Some.block b _ c.eq.ensures _ _ held.2 w.if-eq.false)
+      | then-eq w ↦ (inside, omega (arith, held.1, some, w.count-is), search walk_counted)
+      | else-eq w ↦ (inside, omega (arith, held.1, some, w.count-is), search walk_passed)
     ]
