@@ -13,7 +13,7 @@ use Rattle.rows.proofs.Laws.{decided, neither_of, none_is, number_kept, given_by
 use Rattle.address.specs.Addresses.{link_scoped}
 use Rattle.recent.specs.Layout.{well_formed}
 use Rattle.recent.specs.Entries.{seen_in}
-use Rattle.sheet.specs.Sheet.{layout_of}
+use Rattle.sheet.specs.Sheet.{valid_sheet, layout_of}
 use Rattle.tables.specs.Tables.{holder_of}
 use Rattle.header.specs.Format.{note_size}
 use Rattle.header.specs.Header.{header_of}
@@ -22,8 +22,7 @@ use Rattle.message.specs.Room.{is_full, hops_used}
 use Rattle.header.specs.Rows.{header_rows}
 use Rattle.message.specs.Check.{message_rows}
 use Rattle.message.specs.Inside.{blocks_seen}
-use Rattle.drops.specs.declared.Verdict.{Verdict}
-use Rattle.drops.specs.Inside.{lent_rows, drop_verdict, pass_verdict, judged_of, verdict_of}
+use Rattle.drops.specs.Inside.{Verdict, lent_rows, drop_verdict, pass_verdict, judged_of, verdict_of}
 use Rattle.message.proofs.Laws.{Accepted, none_applies, applies_none, no_room_has_standard}
 use Rattle.drops.specs.Arrival.{Arrival, is_query, is_request, last_hop_for}
 use Rattle.drops.specs.Drop.{drop_room, drop_state, drop_sheet, drop_iface, drop_dest, drop_near, drop_count, drop_seen, drop_last_hop, last_drop, near_ttl, is_held, lending_rows, delivery_rows, route_rows, table, drop_of}
@@ -35,7 +34,7 @@ pub record Taken (F : Format) (a : Arrival) (sheet recent : List ℕ) (output no
   pub output_room : output_size ≤ output
   pub note_room : note_size ≤ note
   pub recent_formed : well_formed recent ≡ true
-  pub sheet_valid : (layout_of F sheet).valid ≡ true
+  pub sheet_valid : valid_sheet F sheet ≡ true
   pub receives : a.receiving < (layout_of F sheet).interfaces
   pub message : Accepted F a.message
   pub reaches : (is_held (holder_of F sheet a.destination) || link_scoped a.destination) ≡ true
@@ -64,7 +63,7 @@ module _ {F : Format} (sound : Sound F) where
   module _ (a : Arrival) (sheet recent : List ℕ) (output note : ℕ) where
     -- the rows before and behind those on the message by itself
     abbrev before : List Row
-    before = lending_rows output note recent (layout_of F sheet) a.receiving
+    before = lending_rows output note recent (valid_sheet F sheet) (layout_of F sheet).interfaces a.receiving
 
     abbrev behind : List Row
     behind =
@@ -85,7 +84,7 @@ module _ {F : Format} (sound : Sound F) where
           output_room = ltb-false _ _ room.0;
           note_room = ltb-false _ _ room.1;
           recent_formed = not-false (well_formed recent) (at drop_state);
-          sheet_valid = not-false (layout_of F sheet).valid (at drop_sheet);
+          sheet_valid = not-false (valid_sheet F sheet) (at drop_sheet);
           receives = leb-false _ _ (at drop_iface);
           message = none_applies sound a.message (itself none);
           reaches = not-false (is_held (holder_of F sheet a.destination) || link_scoped a.destination) (at drop_dest);

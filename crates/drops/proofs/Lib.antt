@@ -3,3 +3,4 @@ pub mod Laws
 pub mod Determined
 -- A law for each way out of a function.
 mod Rows
+mod Once

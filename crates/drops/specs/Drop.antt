@@ -5,8 +5,7 @@ use Rattle.rows.specs.Rows.{Row, row, first_of}
 use Rattle.address.specs.Addresses.{link_scoped}
 use Rattle.recent.specs.Layout.{well_formed}
 use Rattle.recent.specs.Entries.{seen_in}
-use Rattle.sheet.specs.declared.Layout.{Layout}
-use Rattle.sheet.specs.Sheet.{layout_of}
+use Rattle.sheet.specs.Sheet.{valid_sheet, layout_of}
 use Rattle.tables.specs.Tables.{holder_of}
 use Rattle.header.specs.declared.Header.{Header}
 use Rattle.header.specs.Format.{note_size}
@@ -58,13 +57,14 @@ abbrev pub is_held : Option ℕ → Bool
 is_held (Some i) = true
 is_held None = false
 
--- what the host lends with the call
-unfoldable pub lending_rows : ℕ → ℕ → List ℕ → Layout → ℕ → List Row
-lending_rows output note recent layout receiving =
+-- what the host lends with the call: by the bytes for message and record, the recent list, and of the sheet whether it is valid and how
+-- many interfaces it has
+unfoldable pub lending_rows : ℕ → ℕ → List ℕ → Bool → ℕ → ℕ → List Row
+lending_rows output note recent valid interfaces receiving =
     row drop_room (ltb output output_size || ltb note note_size)
     ∷ row drop_state (not (well_formed recent))
-    ∷ row drop_sheet (not layout.valid)
-    ∷ row drop_iface (leb layout.interfaces receiving)
+    ∷ row drop_sheet (not valid)
+    ∷ row drop_iface (leb interfaces receiving)
     ∷ []
 
 -- how the message came, with so many of its hops used
@@ -88,7 +88,7 @@ unfoldable pub table : Format → Arrival → List ℕ → List ℕ → ℕ → 
 table F a sheet recent output note =
     let m = a.message in
     let h = header_of m in
-    lending_rows output note recent (layout_of F sheet) a.receiving
+    lending_rows output note recent (valid_sheet F sheet) (layout_of F sheet).interfaces a.receiving
     ++ (message_rows F m
     ++ (delivery_rows F sheet recent h (hops_used F m) a.destination a.ttl
     ++ route_rows (last_hop_for F sheet h) h a.destination))

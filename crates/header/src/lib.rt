@@ -1,8 +1,9 @@
 // The numbers of the message format; the header of a message, read once into a struct by value; and the rows on it.
 #![tactic(auto)]
 
-ghost use Rattle.std.specs.Prelude.{◌≡◌, ◌≤◌, length};
+ghost use Rattle.std.specs.Prelude.{◌≡◌, ◌≤◌, eqb, length};
 ghost use Rattle.format.specs.Sizes.{Sound, header_fields};
+ghost use Rattle.header.specs.Format.{query, request};
 ghost use Rattle.header.specs.Header.{header_of};
 ghost use Rattle.rows.specs.Rows.{first_of};
 ghost use Rattle.header.specs.Rows.{header_rows};
@@ -49,6 +50,20 @@ pub struct Header {
     pub port: u16,
 }
 
+impl Header {
+    pub fn is_query(self) -> bool
+        ensures { result ≡ eqb self.kind query }
+    {
+        self.kind == Kind::Query as u8
+    }
+
+    pub fn is_request(self) -> bool
+        ensures { result ≡ eqb self.kind request }
+    {
+        self.kind == Kind::Request as u8
+    }
+}
+
 // The header of a message.
 pub fn header_of(s: &[u8]) -> Header
     requires { header_fields ≤ length s.now }
@@ -74,7 +89,7 @@ pub fn check(f: Format, h: Header) -> Result<(), Refusal>
 {
     let no_group = address::all_ones(h.group);
     let no_source = address::all_ones(h.source);
-    if !((h.kind == Kind::Query as u8) | (h.kind == Kind::Request as u8)) {
+    if !(h.is_query() | h.is_request()) {
         return Err(Refusal::MessageType);
     }
     if h.length != f.header as u16 {
