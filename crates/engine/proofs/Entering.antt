@@ -9,9 +9,9 @@ use Rattle.header.specs.Format.{query}
 use Rattle.engine.specs.Step.{recent_after}
 
 -- a Query is entered, anything else is not
-pub query-entered : (h : Header) (r r1 : List ℕ) → h.kind ≡ query → r1 ≡ entered_in r h.client h.id → r1 ≡ recent_after h r
+pub query_entered : (h : Header) (r r1 : List ℕ) → h.kind ≡ query → r1 ≡ entered_in r h.client h.id → r1 ≡ recent_after h r
 unfolding recent_after
-query-entered h r r1 q e = rw (eq-eqb h.kind query q) e
+query_entered h r r1 q e = rw (eq-eqb h.kind query q) e
 
 pub request_kept : (h : Header) (r : List ℕ) → (h.kind ≡ query → ⊥) → r ≡ recent_after h r
 unfolding recent_after

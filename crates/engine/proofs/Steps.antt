@@ -25,10 +25,12 @@ use Rattle.header.specs.Header.{header_of}
 use Rattle.message.specs.Blocks.{standard_count, last_standard}
 use Rattle.message.specs.Inside.{blocks_seen}
 use Rattle.message.proofs.Laws.{no_room_has_standard, last_high, standards_few}
-use Rattle.drops.specs.declared.Verdict.{Verdict}
+use Rattle.refusal.specs.declared.Refusal.{Refusal}
+use Rattle.refusal.specs.Refusal.{number}
+use Rattle.refusal.proofs.Laws.{number_positive}
 use Rattle.rows.specs.Rows.{first_of}
 use Rattle.drops.specs.Arrival.{Arrival, arrival, is_query, route_for, last_hop_for}
-use Rattle.drops.specs.Inside.{lent_rows, pass_verdict, judged_of, verdict_of}
+use Rattle.drops.specs.Inside.{Verdict, drop_verdict, lent_rows, pass_verdict, judged_of, verdict_of}
 use Rattle.view.specs.View.{incoming_for, view_with}
 use Rattle.sending.specs.Answer.{goes_home, full_message, longer_answer, sent_by}
 use Rattle.engine.specs.Step.{outcome, recent_after, StepMeets}
@@ -46,6 +48,10 @@ use Rattle.format.specs.Sizes.{Sound, room_of, least_room}
 use Rattle.view.specs.Room.{link_of, room_with, room_for}
 use Rattle.std.specs.Prelude.{Option, Some, None}
 use Rattle.route_entry.specs.declared.Route.{Route}
+
+-- a refusal's number is not 0
+some_number : (e : Refusal) → number e ≡ 0 → ⊥
+some_number e z = absurd (omega (arith, number_positive e, z))
 
 module _ {F : Format} (sound : Sound F) where
   -- the test for room, by the MTU of the link in view
@@ -71,9 +77,9 @@ module _ {F : Format} (sound : Sound F) where
       unfolding answered view_with
       answered_full e w = rw (← tested, e, w.says, w.sends, w.notes, entered, viewed)
 
-      pub answered-longer : x ≡ false → Written (longer_answer F m view) o n answer o1 n1 → outcome answer r1 o1 n1 ≡ answered F m receiving time v s r o n
+      pub answered_longer : x ≡ false → Written (longer_answer F m view) o n answer o1 n1 → outcome answer r1 o1 n1 ≡ answered F m receiving time v s r o n
       unfolding answered
-      answered-longer e w = rw (← tested, e, ← viewed, w.says, w.sends, w.notes, entered)
+      answered_longer e w = rw (← tested, e, ← viewed, w.says, w.sends, w.notes, entered)
 
   -- what an accepted message brings to each of the two
   module _ (m : List ℕ) (receiving : ℕ) (v : Verdict) (s r : List ℕ) (o n : ℕ) (ready : Ready F m receiving v s r o n) where
@@ -200,10 +206,11 @@ module _ {F : Format} (sound : Sound F) where
       asked_view m (is_query h) proper chosen (incoming_for F s chosen) (prohibited_of s) receiving (interface_of F s receiving) h.group time
 
   -- rows 1 and 2 decide, or the others do
-  module _ (m : List ℕ) (destination receiving ttl time : ℕ) (s r o n : List ℕ) (number : ℕ) (lent : number ≡ first_of (lent_rows (length o) (length n) r)) where
-    pub step-refused : (number ≡ 0 → ⊥) → StepMeets F (arrival m destination receiving ttl) time s r o n (outcome number r o n)
-    step-refused some =
-        let a = arrival m destination receiving ttl in sym (drop_changes_nothing F a time s r o n number (lent_first sound a s r (length o) (length n) number lent some))
+  module _ (m : List ℕ) (destination receiving ttl time : ℕ) (s r o n : List ℕ) (e : Refusal) (lent : number e ≡ first_of (lent_rows (length o) (length n) r)) where
+    pub step_refused : StepMeets F (arrival m destination receiving ttl) time s r o n (outcome (number e) r o n)
+    step_refused =
+        let a = arrival m destination receiving ttl in
+        sym (drop_changes_nothing F a time s r o n (number e) (lent_first sound a s r (length o) (length n) (number e) lent (some_number e)))
 
   -- the recent list where they do not apply
   pub lent_list : (r o n : List ℕ) → first_of (lent_rows (length o) (length n) r) ≡ 0 → Formed r
@@ -218,16 +225,19 @@ module _ {F : Format} (sound : Sound F) where
       pub told : v ≡ verdict_of F came s r (length o) (length n)
       told = judged ∙ sym (lent_none sound came s r (length o) (length n) 0 (sym lent) refl)
 
-      pub step-dropped : (v.number ≡ 0 → ⊥) → StepMeets F came time s r o n (outcome v.number r o n)
-      step-dropped some = sym (drop_changes_nothing F came time s r o n v.number (verdict_first sound came s r (length o) (length n) v told some))
+      pub step_dropped : (e : Refusal) → v ≡ drop_verdict (number e) → StepMeets F came time s r o n (outcome (number e) r o n)
+      unfolding drop_verdict
+      step_dropped e p =
+          let is : v.number ≡ number e = ap (λ (x : Verdict). x.number) p in
+          rw (← is) (sym (drop_changes_nothing F came time s r o n v.number (verdict_first sound came s r (length o) (length n) v told (λ z. some_number e (sym is ∙ z)))))
 
       pub lent_ready : v.number ≡ 0 → Ready F m receiving v s r (length o) (length n)
       lent_ready none = step_ready m destination receiving ttl s r (length o) (length n) v told none
 
-      pub step-answered : (r1 o1 n1 : List ℕ) (answer : ℕ) → v.number ≡ 0 → outcome answer r1 o1 n1 ≡ answered F m receiving time v s r o n
+      pub step_answered : (r1 o1 n1 : List ℕ) (answer : ℕ) → v.number ≡ 0 → outcome answer r1 o1 n1 ≡ answered F m receiving time v s r o n
           → StepMeets F came time s r o n (outcome answer r1 o1 n1)
       unfolding sent_by answered pass_verdict
-      step-answered r1 o1 n1 answer none e =
+      step_answered r1 o1 n1 answer none e =
           let sent = taken_is_sent F came time s r o n (verdict_none sound came s r (length o) (length n) v told none) in
           let h = header_of m in
           e

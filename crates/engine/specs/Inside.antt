@@ -9,9 +9,8 @@ use Rattle.header.specs.Header.{header_of}
 use Rattle.message.specs.Blocks.{last_standard}
 use Rattle.message.specs.Inside.{blocks_seen}
 use Rattle.view.specs.Inside.{RouteThere}
-use Rattle.drops.specs.declared.Verdict.{Verdict}
 use Rattle.message.specs.Room.{is_full, Full}
-use Rattle.drops.specs.Inside.{pass_verdict}
+use Rattle.drops.specs.Inside.{Verdict, pass_verdict}
 use Rattle.view.specs.View.{view_with}
 use Rattle.view.specs.Room.{room_with}
 use Rattle.sending.specs.Answer.{Sent, goes_home, full_message, longer_answer}

@@ -1,5 +1,5 @@
 -- One router's step as a whole: the answer, and every lent byte as it is left.
-use Rattle.std.specs.Prelude.{ℕ, cond, List, ◌≡◌, length}
+use Rattle.std.specs.Prelude.{ℕ, cond, List, ◌≡◌, length, Result, Ok, Err}
 use Rattle.rows.specs.Rows.{by_first}
 use Rattle.wire.specs.Parts.{splice}
 use Rattle.recent.specs.Entries.{entered_in}
@@ -8,8 +8,11 @@ use Rattle.header.specs.declared.Header.{Header}
 use Rattle.header.specs.Header.{header_of}
 use Rattle.drops.specs.Arrival.{Arrival, is_query}
 use Rattle.drops.specs.Drop.{table}
-use Rattle.sending.specs.Answer.{Sent, sent_by}
+use Rattle.sending.specs.Answer.{Sent, sent_by, number_of}
 use Rattle.format.specs.declared.Format.{Format}
+use Rattle.refusal.specs.declared.Refusal.{Refusal}
+use Rattle.refusal.specs.Refusal.{number}
+use Rattle.sending.specs.declared.Answer.{Answer}
 
 -- the answer, and the recent list, the output and the answer record as they are left
 pub record Outcome : Type 0 where
@@ -20,6 +23,11 @@ pub record Outcome : Type 0 where
 
 abbrev pub outcome : ℕ → List ℕ → List ℕ → List ℕ → Outcome
 outcome answer recent output note = record { answer = answer; recent = recent; output = output; note = note }
+
+-- the answer of what code makes of a message: what it sends, or the number that drops it
+abbrev pub answer_of : Result Answer Refusal → ℕ
+answer_of (Ok answer) = number_of answer
+answer_of (Err refusal) = number refusal
 
 -- an accepted Query is written into the recent list; nothing else changes it
 unfoldable pub recent_after : Header → List ℕ → List ℕ

@@ -100,6 +100,36 @@ number_positive ClockState = omega arith
 number_positive NotReply = omega arith
 number_positive OtherPath = omega arith
 
+-- nor is one an answer: those are 100 and over
+pub number_low : (e : Refusal) → number e < 100
+number_low Room = omega arith
+number_low State = omega arith
+number_low Sheet = omega arith
+number_low Iface = omega arith
+number_low Size = omega arith
+number_low MessageType = omega arith
+number_low Header = omega arith
+number_low Hops = omega arith
+number_low Group = omega arith
+number_low Source = omega arith
+number_low Pair = omega arith
+number_low Client = omega arith
+number_low Blocks = omega arith
+number_low Dest = omega arith
+number_low Near = omega arith
+number_low Count = omega arith
+number_low Seen = omega arith
+number_low LastHop = omega arith
+number_low Yard = omega arith
+number_low Times = omega arith
+number_low Start = omega arith
+number_low Request = omega arith
+number_low ClockReading = omega arith
+number_low ClockUnix = omega arith
+number_low ClockState = omega arith
+number_low NotReply = omega arith
+number_low OtherPath = omega arith
+
 -- a check that answers nothing else answers one thing: what its number says
 pub one_answer : (x y : Result (Unit {0}) Refusal) → number_of x ≡ number_of y → x ≡ y
 one_answer (Ok a) (Ok b) same = refl

@@ -4,7 +4,7 @@ use Prim.Native.Nat.{ℕ, suc, ◌+◌, ◌≤◌, ◌<◌}
 use mathlib.Core.Bool.{Bool, true, false, ◌||◌}
 use mathlib.Core.List.{List}
 use mathlib.Core.Logic.{◌⊎◌, inl, inr, ⊎_elim}
-use mathlib.Core.Path.{◌≡◌, refl, ◌∙◌}
+use mathlib.Core.Path.{◌≡◌, refl}
 use native.Mathlib.Omega.{arith}
 use native.Mathlib.Nat.{eq-or-lt_of_le}
 use borrow.Author.Tests.{lt-leb, leb-false, ne_eqb, eq-eqb, eqb-false}
@@ -17,7 +17,7 @@ use Rattle.recent.proofs.Laws.{empty-well_formed}
 use Rattle.route_entry.specs.Route.{unknown, is_rp}
 use Rattle.route_entry.specs.declared.Route.{Route}
 use Rattle.tables.specs.Tables.{interface_of, routes_of, holder_of}
-use Rattle.sheet.proofs.Laws.{valid_told, interface_valid}
+use Rattle.sheet.proofs.Laws.{interface_valid}
 use Rattle.tables.proofs.Laws.{holder_there}
 use Rattle.route.specs.Choice.{which_route}
 use Rattle.route.proofs.Laws.{chosen_kept}
@@ -183,7 +183,7 @@ module _ {F : Format} (sound : Sound F) where
         output_room = lit≤ tt;
         note_room = lit≤ tt;
         recent_formed = empty-well_formed;
-        sheet_valid = valid_told F sheet ∙ interface_valid F sheet i there;
+        sheet_valid = interface_valid F sheet i there;
         receives = there;
         message = accepts;
         reaches = rw held;

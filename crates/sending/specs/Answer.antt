@@ -16,6 +16,8 @@ use Rattle.message.specs.Room.{is_full, hops_used}
 use Rattle.drops.specs.Arrival.{Arrival}
 use Rattle.view.specs.View.{view_of}
 use Rattle.view.specs.Room.{room_for}
+use Rattle.sending.specs.declared.Answer.{Answer}
+use Rattle.sending.specs.declared.Answer.TheVariants.{SentOn, SentHome}
 use Rattle.format.specs.declared.Format.{Format}
 use Rattle.route_entry.specs.declared.Route.{Route}
 use Rattle.interface.specs.declared.Interface.{Interface}
@@ -26,6 +28,11 @@ sent_on = 100
 
 abbrev pub sent_home : ℕ
 sent_home = 101
+
+-- as code has them
+abbrev pub number_of : Answer → ℕ
+number_of SentOn = sent_on
+number_of SentHome = sent_home
 
 -- the UDP port that routers listen on
 abbrev pub mtrace_port : ℕ

@@ -8,20 +8,30 @@ ghost use Rattle.forwarding.specs.Code.{code_no_space};
 ghost use Rattle.written.specs.Inside.{Writes};
 ghost use Rattle.header.specs.Format.{reply, note_size};
 ghost use Rattle.written.specs.Bytes.{block_bytes, note_bytes};
-ghost use Rattle.sending.specs.Answer.{note_home, note_on, goes_home, full_message, longer_message, longer_answer};
+ghost use Rattle.sending.specs.Answer.{number_of, note_home, note_on, goes_home, full_message, longer_message, longer_answer};
 ghost use Rattle.sending.specs.Inside.{Written, WithRoom, WithoutRoom, kind_sent};
 
 use format::Format;
-use forwarding::View;
-use header::Header;
+use forwarding::{Code, View};
+use header::{Header, Kind};
 use interface::Interface;
 use route_entry::Route;
 use written::{Block, Note};
 
-// The answers: a Request sent on, and a Reply.
-pub const SENT_ON: u32 = 100;
+// What is sent: the Request on, or a Reply home.
+#[derive(Clone, Copy, Debug, PartialEq, Eq)]
+pub enum Answer {
+    SentOn = 100,
+    SentHome = 101,
+}
 
-pub const SENT_HOME: u32 = 101;
+impl From<Answer> for u32 {
+    ghost from_gives = { λ answer n. n ≡ number_of answer };
+
+    fn from(answer: Answer) -> u32 {
+        answer as u32
+    }
+}
 
 // The UDP port that routers listen on, and the interface of a Reply.
 const MTRACE_PORT: u16 = 33435;
@@ -35,8 +45,8 @@ fn write_full(f: Format, message: &[u8], last: usize, output: &mut [u8])
     ensures { output.new ≡ splice output.old 0 (set (set message.now 0 reply) (last + f.code) code_no_space) }
 {
     wire::copy_to(output, 0, message);
-    output[0] = header::REPLY;
-    output[last + f.code] = forwarding::CODE_NO_SPACE;
+    output[0] = Kind::Reply as u8;
+    output[last + f.code] = Code::NoSpace as u8;
 }
 
 // The message with its type, and a block behind it.
@@ -51,6 +61,7 @@ fn write_longer(message: &[u8], kind: u8, block: Block, output: &mut [u8])
 }
 
 // The answer record.
+#[tactic(auto, using(crate::proofs::Writes::note_written))]
 fn write_note(n: Note, note: &mut [u8])
     requires { note_size ≤ length note.old }
     ensures { note.new ≡ splice note.old 0 (note_bytes n) }
@@ -74,6 +85,7 @@ fn note_home(h: Header, size: usize, source: u32) -> Note
 }
 
 // The record of a Request sent on.
+#[tactic(auto, using(crate::proofs::Rows::note_found, crate::proofs::Rows::note_none))]
 fn note_on(chosen: Option<Route>, incoming: Option<Interface>, size: usize) -> Note
     requires { size ≤ output_size }
     ensures { result ≡ note_on chosen incoming size }
@@ -88,10 +100,7 @@ fn note_on(chosen: Option<Route>, incoming: Option<Interface>, size: usize) -> N
         },
         None => Note {
             length: size as u16,
-            destination: 0,
-            port: 0,
-            interface: 0,
-            source: 0,
+            ..Note::default()
         },
     }
 }
@@ -100,10 +109,8 @@ fn note_on(chosen: Option<Route>, incoming: Option<Interface>, size: usize) -> N
 fn kind_sent(ends: bool) -> u8
     ensures { result ≡ kind_sent ends }
 {
-    if ends {
-        return header::REPLY;
-    }
-    header::REQUEST
+    let kind = if ends { Kind::Reply } else { Kind::Request };
+    kind as u8
 }
 
 // There is room: the block is appended, and the message goes home or on.
@@ -115,27 +122,25 @@ pub fn send_longer(
     v: View,
     output: &mut [u8],
     note: &mut [u8],
-) -> u32
+) -> Answer
     requires writes { Writes f }
     requires with_room { WithRoom f message.now h used v (length output.old) (length note.old) }
-    ensures { Written (longer_answer f message.now v) output.old note.old result output.new note.new }
+    ensures { Written (longer_answer f message.now v) output.old note.old (number_of result) output.new note.new }
 {
     let block = response::block_of(v);
     let size = message.len() + f.block;
     let ends = response::ends_trace(v, used as u32 + 1, h.hops as u32);
     write_longer(message, kind_sent(ends), block, output);
     if ends {
-        let here = v.here;
-        write_note(note_home(h, size, here.address), note);
-        return SENT_HOME;
+        write_note(note_home(h, size, v.here.address), note);
+        return Answer::SentHome;
     }
-    let chosen = v.chosen;
-    let incoming = v.incoming;
-    write_note(note_on(chosen, incoming, size), note);
-    SENT_ON
+    write_note(note_on(v.chosen, v.incoming, size), note);
+    Answer::SentOn
 }
 
 // There is no room: the message goes home with 0x81.
+#[tactic(auto, using(crate::proofs::Rows::full_sent))]
 pub fn send_full(
     f: Format,
     message: &[u8],
@@ -144,12 +149,12 @@ pub fn send_full(
     here: Interface,
     output: &mut [u8],
     note: &mut [u8],
-) -> u32
+) -> Answer
     requires sound { Sound f }
     requires without_room { WithoutRoom f message.now h last (length output.old) (length note.old) }
-    ensures { Written (goes_home h here.address (full_message f message.now)) output.old note.old result output.new note.new }
+    ensures { Written (goes_home h here.address (full_message f message.now)) output.old note.old (number_of result) output.new note.new }
 {
     write_full(f, message, last, output);
     write_note(note_home(h, message.len(), here.address), note);
-    SENT_HOME
+    Answer::SentHome
 }

@@ -38,9 +38,9 @@ module _ {F : Format} (sound : Sound F) where
   place_within s i at e h = omega (arith, interface_bytes_lem sound s i h)
 
   -- what is read there is interface i
-  pub interface-told : (s : List ℕ) (i at : ℕ) (x : Interface) → at ≡ place_of F.interface 0 i → x ≡ interface_at s at → x ≡ interface_of F s i
+  pub interface_told : (s : List ℕ) (i at : ℕ) (x : Interface) → at ≡ place_of F.interface 0 i → x ≡ interface_at s at → x ≡ interface_of F s i
   unfolding interface_of
-  interface-told s i at x e f = f ∙ rw e
+  interface_told s i at x e f = f ∙ rw e
 
   -- a route's place
   pub route_each : 0 < entries_each F.route

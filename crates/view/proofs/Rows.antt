@@ -2,7 +2,7 @@
 use Prim.Native.Nat.{ℕ, ◌≤◌, ◌<◌}
 use mathlib.Core.Bool.{Bool}
 use mathlib.Core.List.{List}
-use mathlib.Core.Path.{◌≡◌, ◌∙◌}
+use mathlib.Core.Path.{◌≡◌}
 use lib.Dec.{eqb}
 use lib.ListN.{length}
 use borrow.Author.Tests.{eq-eqb, ne_eqb}
@@ -12,7 +12,7 @@ use Rattle.route_entry.specs.declared.Route.{Route}
 use Rattle.sheet.specs.Sheet.{layout_of}
 use Rattle.tables.specs.Tables.{interface_of, prohibited_of}
 use Rattle.block.specs.Block.{block_size}
-use Rattle.sheet.proofs.Laws.{interface_valid, valid_told}
+use Rattle.sheet.proofs.Laws.{interface_valid}
 use Rattle.tables.proofs.Laws.{valid_long}
 use Rattle.header.specs.declared.Header.{Header}
 use Rattle.view.specs.View.{incoming_for, view_with}
@@ -47,13 +47,13 @@ module _ (F : Format) where
 
   -- a sheet with an interface is valid, and has a first block
   pub switches_here : (s : List ℕ) (receiving : ℕ) → receiving < (layout_of F s).interfaces → block_size ≤ length s
-  switches_here s receiving h = valid_long F s (valid_told F s ∙ interface_valid F s receiving h)
+  switches_here s receiving h = valid_long F s (interface_valid F s receiving h)
 
   -- the view, field by field
-  pub view_made : (s : List ℕ) (h : Header) (chosen : Option Route) (proper : Bool) (receiving time : ℕ) (incoming : Option Interface) (prohibited : Bool) (here : Interface)
-      → incoming ≡ incoming_for F s chosen → prohibited ≡ prohibited_of s → here ≡ interface_of F s receiving
+  pub view_made : (s : List ℕ) (h : Header) (chosen : Option Route) (proper : Bool) (receiving time : ℕ) (asked : Bool) (incoming : Option Interface) (prohibited : Bool) (here : Interface)
+      → asked ≡ eqb h.kind query → incoming ≡ incoming_for F s chosen → prohibited ≡ prohibited_of s → here ≡ interface_of F s receiving
       → record {
-        query = eqb h.kind query;
+        query = asked;
         proper = proper;
         chosen = chosen;
         incoming = incoming;
@@ -65,4 +65,4 @@ module _ (F : Format) where
       }
       ≡ view_with F s h chosen proper receiving time
   unfolding view_with
-  view_made s h chosen proper receiving time incoming prohibited here e f g = rw (e, f, g)
+  view_made s h chosen proper receiving time asked incoming prohibited here d e f g = rw (d, e, f, g)

@@ -30,7 +30,7 @@ pub struct Block {
 }
 
 // The fields of an answer record.
-#[derive(Clone, Copy)]
+#[derive(Clone, Copy, Default)]
 pub struct Note {
     pub length: u16,
     pub destination: u32,

@@ -1,5 +1,5 @@
 -- `answer`: with room or without, what is written is the outcome.
-use Rattle.engine.proofs.Steps.{full_ready, answered_full, roomy_ready, answered-longer}
+use Rattle.engine.proofs.Steps.{full_ready, answered_full, roomy_ready, answered_longer}
 use Rattle.engine.proofs.answer.Goals as goal
 
 pub send_full-requires : goal.send_full-requires
@@ -17,5 +17,5 @@ send_longer-requires c =
 
 pub returns : goal.returns
 returns c =
-    answered-longer c.requires.sound _ _ _ _ _ _ c.view_with-view.ensures _ c.link_mtu.ensures _ c.is_full.ensures _ _ _ _ _ _ _ c.write_recent.ensures
+    answered_longer c.requires.sound _ _ _ _ _ _ c.view_with-view.ensures _ c.link_mtu.ensures _ c.is_full.ensures _ _ _ _ _ _ _ c.write_recent.ensures
     c.if-is_full.false c.send_longer.ensures
