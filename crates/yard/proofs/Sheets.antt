@@ -3,7 +3,7 @@ use Prim.Native.Nat.{ℕ, suc, ◌+◌, ◌*◌, ◌-◌, ◌/◌, ◌≤◌, �
 use mathlib.Core.Bool.{Bool, true, false, not}
 use mathlib.Core.List.{List}
 use mathlib.Core.Logic.{⊎_elim}
-use mathlib.Core.Path.{◌≡◌, sym, ap, ◌∙◌}
+use mathlib.Core.Path.{◌≡◌, refl, sym, ap, ◌∙◌}
 use native.Mathlib.Omega.{arith}
 use native.Mathlib.Nat.{add-sub_cancel_left, eq-or-lt_of_le}
 use borrow.Author.Tests.{not-true, not-false}
@@ -13,7 +13,8 @@ use Rattle.wire.proofs.Laws.{Wholes, wholes}
 use Rattle.rows.proofs.Laws.{both_of}
 use Rattle.sheet_block.proofs.Laws.{every-next, every_stops}
 use Rattle.sheet_block.specs.Every.{every}
-use Rattle.sheet.specs.Sheet.{layout_of}
+use Rattle.sheet.specs.Sheet.{layout_of, told_of}
+use Rattle.sheet.proofs.Laws.{told_some, told_none}
 use Rattle.tables.specs.Tables.{holder_of}
 use Rattle.sheet.specs.declared.Layout.{Layout}
 use Rattle.yard.specs.Inside.{Counted, YardChecked}
@@ -39,22 +40,20 @@ module _ (yard : List ℕ) (size : Bool) (told : size ≡ yard_size_ok (length y
 
 module _ (F : Format) where
   -- one sheet more is checked, and its interfaces are counted
-  module _ (yard : List ℕ) (i : ℕ) (l : Layout) (told : l ≡ layout_of F (take (sheet_size * i + sheet_size - sheet_size * i) (drop (sheet_size * i) yard))) where
-    layout_is : l ≡ layout_of F (sheet_at yard i)
-    layout_is = told ∙ rw (lent_sheet yard i)
+  module _ (yard : List ℕ) (i : ℕ) (o : Option Layout) (told : o ≡ told_of F (take (sheet_size * i + sheet_size - sheet_size * i) (drop (sheet_size * i) yard))) where
+    told_is : o ≡ told_of F (sheet_at yard i)
+    told_is = told ∙ rw (lent_sheet yard i)
 
-    valid_is : l.valid ≡ valid_at F yard i
-    valid_is = ap (λ (x : Layout). x.valid) layout_is
+    pub checked_wrong : (n : ℕ) → i < n → o ≡ None → false ≡ every (valid_at F yard) n
+    checked_wrong n h e = every_stops (valid_at F yard) false n i (sym (told_none F (sheet_at yard i) (sym told_is ∙ e))) refl h
 
-    pub checked_more : true ≡ every (valid_at F yard) i → not l.valid ≡ false → true ≡ every (valid_at F yard) (i + 1)
-    checked_more e h = every-next (valid_at F yard) l.valid i e valid_is h
+    pub checked_more : (l : Layout) → true ≡ every (valid_at F yard) i → o ≡ Some l → true ≡ every (valid_at F yard) (i + 1)
+    checked_more l e some = every-next (valid_at F yard) true i e (sym (told_some F (sheet_at yard i) l (sym told_is ∙ some)).0) refl
 
-    pub checked_wrong : (n : ℕ) → i < n → not l.valid ≡ true → false ≡ every (valid_at F yard) n
-    checked_wrong n h e = every_stops (valid_at F yard) l.valid n i valid_is e h
-
-    pub counted_more : (counts first : List ℕ) (n : ℕ) → i < n → n ≤ length first → length counts ≡ length first → Counted F yard counts i
-        → Counted F yard (set counts i l.interfaces) (i + 1)
-    counted_more counts first n more room same c =
+    pub counted_more : (l : Layout) (counts first : List ℕ) (n : ℕ) → o ≡ Some l → i < n → n ≤ length first → length counts ≡ length first
+        → Counted F yard counts i → Counted F yard (set counts i l.interfaces) (i + 1)
+    counted_more l counts first n some more room same c =
+        let layout_is : l ≡ layout_of F (sheet_at yard i) = (told_some F (sheet_at yard i) l (sym told_is ∙ some)).1 in
         let there : i < length counts = omega arith in
         record {
           long = simp length-set (omega arith);

@@ -1,6 +1,6 @@
 -- The walk (document 01, "Walk"): the routers that a trace enters, in order, with what each receives; its end; and the last
 -- message sent.
-use Rattle.std.specs.Prelude.{ℕ, zero, suc, not, cond, List, [], ◌∷◌, ◌≡◌, leb, ltb, eqb, length, get_or, Option, Some, None}
+use Rattle.std.specs.Prelude.{ℕ, zero, suc, not, cond, List, [], ◌∷◌, ◌≡◌, leb, ltb, eqb, length, get_or, Option, Some, None, Result, Ok, Err}
 use Rattle.wire.specs.Numbers.{byte_at}
 use Rattle.wire.specs.Parts.{splice}
 use Rattle.address.specs.Addresses.{multicast}
@@ -11,8 +11,12 @@ use Rattle.message.specs.Blocks.{standard_count}
 use Rattle.message.specs.Room.{hops_left}
 use Rattle.drops.specs.Arrival.{Arrival, arrival}
 use Rattle.drops.specs.Drop.{drop_room, near_ttl, table}
-use Rattle.sending.specs.Answer.{Sent, sent_on, sent_by}
-use Rattle.yard.specs.declared.Walked.{Walked}
+use Rattle.sending.specs.Answer.{Sent, sent_on, sent_home, sent_by}
+use Rattle.yard.specs.declared.Walked as code
+use Rattle.yard.specs.declared.End.{End}
+use Rattle.yard.specs.declared.End.TheVariants.{Dropped, SentHome, ToGroup, NobodyThere}
+use Rattle.refusal.specs.declared.Refusal.{Refusal}
+use Rattle.refusal.specs.Refusal.{number}
 use Rattle.yard.specs.Yard.{routers_in, sheet_at, yard_ok, holder_in}
 use Rattle.format.specs.declared.Format.{Format}
 use Rattle.format.specs.Sizes.{output_size}
@@ -127,6 +131,29 @@ walk_rows F yard times v output =
 -- the first refusal that applies, or else the walk from the start
 unfoldable pub walk_of : Format → List ℕ → List ℕ → Visit → ℕ → Walk
 walk_of F yard times v output = by_first refused_walk (walk_from F yard times v) (walk_rows F yard times v output)
+
+-- what is told of a walk: its end, its steps, and the blocks and the length of its last message
+pub record Walked : Type 0 where
+  pub end : ℕ
+  pub steps : ℕ
+  pub blocks : ℕ
+  pub length : ℕ
+
+-- the number of an end: that of the drop, 101 for a Reply, 102, 103
+abbrev pub end_number : End → ℕ
+end_number (Dropped refusal) = number refusal
+end_number SentHome = sent_home
+end_number ToGroup = to_group
+end_number NobodyThere = nobody_there
+
+-- as code has it
+abbrev pub walked : code.Walked → Walked
+walked w = record { end = end_number w.end; steps = w.steps; blocks = w.blocks; length = w.length }
+
+-- of a walk that is refused its number alone is told
+abbrev pub walked_by : Result code.Walked Refusal → Walked
+walked_by (Ok w) = walked w
+walked_by (Err refusal) = record { end = number refusal; steps = 0; blocks = 0; length = 0 }
 
 -- what is answered for a walk: its end, its steps, the type 4 blocks and the length of the last message sent
 abbrev pub walked_of : Format → Walk → Walked

@@ -2,7 +2,7 @@
 use Rattle.std.specs.Prelude.{ℕ, zero, suc, ◌+◌, ◌*◌, ◌/◌, Bool, ◌&&◌, List, length, Option, Some, None}
 use Rattle.wire.specs.Parts.{part, whole_parts}
 use Rattle.sheet_block.specs.Every.{every}
-use Rattle.sheet.specs.Sheet.{layout_of}
+use Rattle.sheet.specs.Sheet.{valid_sheet}
 use Rattle.tables.specs.Tables.{holder_of}
 use Rattle.format.specs.declared.Format.{Format}
 
@@ -24,7 +24,7 @@ sheet_at yard i = part (sheet_size * i) sheet_size yard
 
 -- whether it is valid
 abbrev pub valid_at : Format → List ℕ → ℕ → Bool
-valid_at F yard i = (layout_of F (sheet_at yard i)).valid
+valid_at F yard i = valid_sheet F (sheet_at yard i)
 
 -- 1 to 32 whole sheets
 abbrev pub yard_size_ok : ℕ → Bool

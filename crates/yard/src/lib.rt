@@ -1,62 +1,95 @@
 // A trace walked from router to router: each is a call of the engine, and the walk calls itself for the next.
 #![tactic(auto)]
 
-ghost use Rattle.std.specs.Prelude.{true, ◌≡◌, ◌+◌, ◌*◌, ◌/◌, ◌≤◌, ◌<◌, eqb, length};
+ghost use Rattle.std.specs.Prelude.{true, ◌≡◌, ◌+◌, ◌*◌, ◌/◌, ◌≤◌, ◌<◌, eqb, length, Ok, IfOk};
 ghost use Rattle.wire.specs.Numbers.{byte_at};
 ghost use Rattle.sheet_block.specs.Every.{every};
 ghost use Rattle.format.specs.Sizes.{ipv4, output_size};
 ghost use Rattle.header.specs.Format.{request};
 ghost use Rattle.message.specs.Blocks.{standard_count};
-ghost use Rattle.drops.specs.Arrival.{arrival};
+ghost use Rattle.drops.specs.Inside.{arrived};
+ghost use Rattle.engine.specs.Step.{answer_of};
 ghost use Rattle.yard.specs.Yard.{sheet_size, most_routers, routers_in, valid_at, yard_size_ok, holder_in};
-ghost use Rattle.yard.specs.Walk.{visit, sent_for, sent_at, refused_walk, walked_of, walk_from, Tells, WalkTells};
-ghost use Rattle.yard.specs.Inside.{Counted, YardChecked, CanEnter, Called, Hopped, Ended};
+ghost use Rattle.yard.specs.Walk.{sent_for, sent_at, walk_from, end_number, walked, walked_by, Tells, WalkTells};
+ghost use Rattle.yard.specs.Inside.{visited, Counted, YardChecked, CanEnter, Called, Onwards, Hopped, Ended};
 
+use drops::Arrival;
+use header::Kind;
+use refusal::Refusal;
+use sending::Answer;
 
 // Bytes of a router's sheet in a yard, and the most routers.
 pub const SHEET_SIZE: usize = 1024;
 
 pub const MOST_ROUTERS: usize = 32;
 
-// The ends of a walk besides the engine's: sent to a group, and nobody holds the address.
-const TO_GROUP: u32 = 102;
+// A router that is entered, and what arrives there.
+#[derive(Clone, Copy)]
+pub struct Visit<'a> {
+    pub router: usize,
+    pub arrival: Arrival<'a>,
+}
 
-const NOBODY_THERE: u32 = 103;
+// How a walk ends: a router drops what it receives or sends a Reply home, or a Request is sent to a group or to an address that nobody holds.
+#[derive(Clone, Copy, Debug, PartialEq, Eq)]
+pub enum End {
+    Dropped(Refusal),
+    SentHome,
+    ToGroup,
+    NobodyThere,
+}
 
-// The refusals besides too few bytes lent: the yard, the times, the start router, a message of type 2.
-const WALK_YARD: u32 = 21;
+impl From<End> for u32 {
+    ghost from_gives = { λ end n. n ≡ end_number end };
 
-const WALK_TIMES: u32 = 22;
-
-const WALK_START: u32 = 23;
-
-const WALK_REQUEST: u32 = 24;
+    fn from(end: End) -> u32 {
+        match end {
+            End::Dropped(refusal) => u32::from(refusal),
+            End::SentHome => u32::from(Answer::SentHome),
+            End::ToGroup => 102,
+            End::NobodyThere => 103,
+        }
+    }
+}
 
 // What a walk answers: its end, its steps (calls of the engine), and the type 4 blocks and the length of the last message sent.
 #[derive(Clone, Copy)]
 pub struct Walked {
-    pub end: u32,
+    pub end: End,
     pub steps: u32,
     pub blocks: u32,
     pub length: u32,
 }
 
+// A yard that was checked: its sheets, the times of its routers, and how many interfaces each router has.
+#[derive(Clone, Copy)]
+struct Yard<'a> {
+    sheets: &'a [u8],
+    times: &'a [u32],
+    interfaces: [usize; MOST_ROUTERS],
+}
+
 // What the engine answered, and the length and the destination of what it sent.
-#[derive(Drop)]
+#[derive(Clone, Copy)]
 struct Call {
-    answer: u32,
+    answer: Result<Answer, Refusal>,
     length: usize,
     to: u32,
 }
 
-// The end, or 100 and where the message sent goes on to.
-#[derive(Drop)]
-struct Hop {
-    end: u32,
-    length: usize,
-    to: u32,
+// Where a Request that was sent on is received: the router, its interface, and the destination.
+#[derive(Clone, Copy)]
+struct Onward {
     router: usize,
     interface: u32,
+    to: u32,
+}
+
+// The length of what a router sent, and where it is received next, or how the walk ends there.
+#[derive(Clone, Copy)]
+struct Hop {
+    length: usize,
+    next: Result<Onward, End>,
 }
 
 fn size_ok(size: usize) -> bool
@@ -70,20 +103,17 @@ fn sheets_ok(yard: &[u8], n: usize, counts: &mut [usize]) -> bool
     requires { (n ≤ most_routers) × (sheet_size * n ≤ length yard.now) × (n ≤ length counts.old) }
     ensures { (result ≡ every (valid_at ipv4 yard.now) n) × (result ≡ true → Counted ipv4 yard.now counts.new n) }
 {
-    let mut i: usize = 0;
-    while i < n {
+    for i in 0..n {
         let a = SHEET_SIZE * i;
-        let e = a + SHEET_SIZE;
-        let layout = sheet::check(&yard[a..e]);
-        if !layout.valid {
+        let Some(layout) = sheet::check(&yard[a..a + SHEET_SIZE]) else {
             return false;
-        }
+        };
         counts[i] = layout.interfaces;
-        i += 1;
     }
     true
 }
 
+#[tactic(auto, using(crate::proofs::Sheets::wrong_size_lem))]
 fn yard_ok(yard: &[u8], counts: &mut [usize]) -> bool
     requires { most_routers ≤ length counts.old }
     ensures { YardChecked ipv4 yard.now result counts.new }
@@ -100,45 +130,24 @@ fn holder_in(yard: &[u8], counts: &[usize], n: usize, address: u32) -> Option<(u
     requires counted { Counted ipv4 yard.now counts.now n }
     ensures { result ≡ holder_in ipv4 yard.now address }
 {
-    let mut i: usize = 0;
-    while i < n {
+    for i in 0..n {
         let a = SHEET_SIZE * i;
-        let e = a + SHEET_SIZE;
-        let found = tables::holder(format::IPV4, &yard[a..e], counts[i], address);
+        let found = tables::holder(format::IPV4, &yard[a..a + SHEET_SIZE], counts[i], address);
         if let Some(k) = found {
             return Some((i, k));
         }
-        i += 1;
     }
     None
 }
 
 // One call of the engine, with enough lent and an empty recent list.
-fn ask(
-    sheet: &[u8],
-    time: u32,
-    message: &[u8],
-    destination: u32,
-    receiving: u32,
-    ttl: u32,
-    sent: &mut [u8],
-) -> Call
+fn ask(sheet: &[u8], time: u32, a: Arrival, sent: &mut [u8]) -> Call
     requires { length sent.old ≡ output_size }
-    ensures { Called (sent_for ipv4 sheet.now time (arrival message.now destination receiving ttl)) sent.old result sent.new }
+    ensures { Called (sent_for ipv4 sheet.now time (arrived a.entry)) sent.old result sent.new }
 {
     let mut recent = [0u8; recent::LIST_SIZE];
     let mut note = [0u8; header::NOTE_SIZE];
-    let answer = engine::step_lent(
-        message,
-        destination,
-        receiving,
-        ttl,
-        time,
-        sheet,
-        &mut recent,
-        sent,
-        &mut note,
-    );
+    let answer = engine::step_lent(a, time, sheet, &mut recent, sent, &mut note);
     Call {
         answer,
         length: wire::be16(&note, 0) as usize,
@@ -146,65 +155,51 @@ fn ask(
     }
 }
 
-// What was sent goes no further.
-fn ended(end: u32, c: Call) -> Hop
-    ensures { result ≡ record { end = end; length = c.length; to = c.to; router = 0; interface = 0 } }
+// What becomes of what a router sent: it goes on to who holds its destination, or the walk ends.
+#[tactic(auto, using(format::specs::Sizes::ipv4_sound, written::proofs::Laws::ipv4_writes, crate::proofs::Rows::onward_home, crate::proofs::Rows::onward_dropped, crate::proofs::Rows::onward_group, crate::proofs::Rows::onward_nobody, crate::proofs::Rows::onward_held))]
+fn go_on(yard: &Yard, call: Call) -> Result<Onward, End>
+    requires { CanEnter ipv4 yard.now }
+    ensures { Onwards ipv4 yard.now.sheets.now (answer_of call.answer) call.to result }
 {
-    Hop {
-        end,
-        length: c.length,
-        to: c.to,
-        router: 0,
-        interface: 0,
+    match call.answer {
+        Ok(Answer::SentOn) => {}
+        Ok(Answer::SentHome) => return Err(End::SentHome),
+        Err(refusal) => return Err(End::Dropped(refusal)),
     }
+    if address::multicast(call.to) {
+        return Err(End::ToGroup);
+    }
+    let routers = yard.sheets.len() / SHEET_SIZE;
+    let Some((router, k)) = holder_in(yard.sheets, &yard.interfaces, routers, call.to) else {
+        return Err(End::NobodyThere);
+    };
+    Ok(Onward {
+        router,
+        interface: k as u32,
+        to: call.to,
+    })
 }
 
-// The engine's call at a router, and what becomes of what it sent: 102 sent to a group, 103 nobody holds the address.
-fn enter(
-    yard: &[u8],
-    counts: &[usize],
-    times: &[u32],
-    router: usize,
-    message: &[u8],
-    destination: u32,
-    receiving: u32,
-    ttl: u32,
-    sent: &mut [u8],
-) -> Hop
-    requires can_enter { CanEnter ipv4 yard.now counts.now times.now router }
+// The engine's call at a router, and what becomes of what it sent.
+#[tactic(auto, using(format::specs::Sizes::ipv4_sound, written::proofs::Laws::ipv4_writes))]
+fn enter(yard: &Yard, v: Visit, sent: &mut [u8]) -> Hop
+    requires can_enter { CanEnter ipv4 yard.now }
+    requires there { v.router < routers_in yard.now.sheets.now }
     requires sent_len { length sent.old ≡ output_size }
-    ensures { Hopped ipv4 yard.now
-        (sent_at ipv4 yard.now times.now (visit router (arrival message.now destination receiving ttl)))
+    ensures { Hopped ipv4 yard.now.sheets.now
+        (sent_at ipv4 yard.now.sheets.now yard.now.times.now (visited v.entry))
         sent.old result sent.new }
 {
-    let a = SHEET_SIZE * router;
-    let e = a + SHEET_SIZE;
-    let c = ask(
-        &yard[a..e],
-        times[router],
-        message,
-        destination,
-        receiving,
-        ttl,
+    let a = SHEET_SIZE * v.router;
+    let call = ask(
+        &yard.sheets[a..a + SHEET_SIZE],
+        yard.times[v.router],
+        v.arrival,
         sent,
     );
-    let to = c.to;
-    if c.answer != sending::SENT_ON {
-        return ended(c.answer, c);
-    }
-    if address::multicast(to) {
-        return ended(TO_GROUP, c);
-    }
-    let holder = holder_in(yard, counts, yard.len() / SHEET_SIZE, to);
-    match holder {
-        Some((i, k)) => Hop {
-            end: sending::SENT_ON,
-            length: c.length,
-            to,
-            router: i,
-            interface: k as u32,
-        },
-        None => ended(NOBODY_THERE, c),
+    Hop {
+        length: call.length,
+        next: go_on(yard, call),
     }
 }
 
@@ -221,7 +216,7 @@ fn count(sent: &[u8]) -> u32
 }
 
 // The walk ends: the last message sent goes to the output.
-fn finish(end: u32, sent: &[u8], output: &mut [u8]) -> Walked
+fn finish(end: End, sent: &[u8], output: &mut [u8]) -> Walked
     requires { (length sent.now ≤ output_size) × (output_size ≤ length output.old) }
     ensures { Ended ipv4 end sent.now output.old result output.new }
 {
@@ -235,56 +230,36 @@ fn finish(end: u32, sent: &[u8], output: &mut [u8]) -> Walked
 }
 
 // A router is entered, and from there the walk goes on: the hops not yet used fall with each.
-fn go(
-    yard: &[u8],
-    counts: &[usize],
-    times: &[u32],
-    router: usize,
-    message: &[u8],
-    destination: u32,
-    receiving: u32,
-    ttl: u32,
-    output: &mut [u8],
-) -> Walked
-    requires can_enter { CanEnter ipv4 yard.now counts.now times.now router }
+fn go(yard: &Yard, v: Visit, output: &mut [u8]) -> Walked
+    requires can_enter { CanEnter ipv4 yard.now }
+    requires there { v.router < routers_in yard.now.sheets.now }
     requires output_size_in_bounds { output_size ≤ length output.old }
-    ensures { Tells ipv4
-        (walk_from ipv4 yard.now times.now (visit router (arrival message.now destination receiving ttl)))
-        output.old result output.new }
+    ensures { Tells ipv4 (walk_from ipv4 yard.now.sheets.now yard.now.times.now (visited v.entry))
+        output.old (walked result) output.new }
 {
     let mut sent = [0u8; format::OUTPUT_SIZE];
-    let h = enter(
-        yard,
-        counts,
-        times,
-        router,
-        message,
-        destination,
-        receiving,
-        ttl,
-        &mut sent,
-    );
-    let size = h.length;
-    if h.end != sending::SENT_ON {
-        return finish(h.end, &sent[..size], output);
-    }
-    let w = go(
-        yard,
-        counts,
-        times,
-        h.router,
-        &sent[..size],
-        h.to,
-        h.interface,
-        drops::NEAR_TTL,
-        output,
-    );
-    let steps = w.steps + 1;
-    Walked {
-        end: w.end,
-        steps,
-        blocks: w.blocks,
-        length: w.length,
+    let hop = enter(yard, v, &mut sent);
+    let message = &sent[..hop.length];
+    match hop.next {
+        Err(end) => finish(end, message, output),
+        Ok(on) => {
+            let arrival = Arrival {
+                message,
+                destination: on.to,
+                receiving: on.interface,
+                ttl: drops::NEAR_TTL,
+            };
+            let w = go(
+                yard,
+                Visit {
+                    router: on.router,
+                    arrival,
+                },
+                output,
+            );
+            let steps = w.steps + 1;
+            Walked { steps, ..w }
+        }
     }
 }
 
@@ -292,66 +267,36 @@ fn go(
 fn is_request(message: &[u8]) -> bool
     ensures { result ≡ eqb (byte_at message.now 0) request }
 {
-    if message.len() == 0 {
-        return false;
-    }
-    message[0] == header::REQUEST
+    message.first() == Some(&(Kind::Request as u8))
 }
 
-// Nobody is entered, and nothing is sent.
-fn refuse(number: u32) -> Walked
-    ensures { result ≡ walked_of ipv4 (refused_walk number) }
-{
-    Walked {
-        end: number,
-        steps: 0,
-        blocks: 0,
-        length: 0,
-    }
-}
-
-// Walks a trace from the start router to its end. Refused are: 1 an output under 1472 bytes, 21 a yard that is not 1 to 32 valid
-// sheets of 1024 bytes, 22 fewer times than routers, 23 a start router that is not there, 24 a message of type 2.
-pub fn walk(
-    yard: &[u8],
-    times: &[u32],
-    message: &[u8],
-    start: u32,
-    receiving: u32,
-    destination: u32,
-    ttl: u32,
-    output: &mut [u8],
-) -> Walked
-    ensures { WalkTells ipv4 yard.now times.now (visit start (arrival message.now destination receiving ttl))
-        output.old result output.new }
+// Walks a trace from the start router to its end. Refused are: an output under 1472 bytes, a yard that is not 1 to 32 valid sheets of
+// 1024 bytes, fewer times than routers, a start router that is not there, a message of type 2.
+pub fn walk(yard: &[u8], times: &[u32], start: Visit, output: &mut [u8]) -> Result<Walked, Refusal>
+    ensures told { WalkTells ipv4 yard.now times.now (visited start.entry) output.old (walked_by result) output.new }
+    ensures entered { IfOk result (λ w. 0 < w.steps) }
 {
     let routers = yard.len() / SHEET_SIZE;
-    let router = start as usize;
     if output.len() < format::OUTPUT_SIZE {
-        return refuse(drops::DROP_ROOM);
+        return Err(Refusal::Room);
     }
-    let mut counts = [0usize; MOST_ROUTERS];
-    if !yard_ok(yard, &mut counts) {
-        return refuse(WALK_YARD);
+    let mut interfaces = [0usize; MOST_ROUTERS];
+    if !yard_ok(yard, &mut interfaces) {
+        return Err(Refusal::Yard);
     }
     if times.len() < routers {
-        return refuse(WALK_TIMES);
+        return Err(Refusal::Times);
     }
-    if routers <= router {
-        return refuse(WALK_START);
+    if routers <= start.router {
+        return Err(Refusal::Start);
     }
-    if is_request(message) {
-        return refuse(WALK_REQUEST);
+    if is_request(start.arrival.message) {
+        return Err(Refusal::Request);
     }
-    go(
-        yard,
-        &counts,
+    let yard = Yard {
+        sheets: yard,
         times,
-        router,
-        message,
-        destination,
-        receiving,
-        ttl,
-        output,
-    )
+        interfaces,
+    };
+    Ok(go(&yard, start, output))
 }

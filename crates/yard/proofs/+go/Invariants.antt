@@ -5,4 +5,4 @@ use Rattle.message.specs.Room.{hops_left}
 use Rattle.yard.proofs.+go.Given as goal
 
 abbrev pub decreases-go : goal.decreases-go
-decreases-go l = hops_left ipv4 l.message.now
+decreases-go l = hops_left ipv4 l.v.arrival.message.now

@@ -1,6 +1,5 @@
 -- `sheets_ok`: after i turns the first i sheets are right, and their interfaces are counted.
 use Rattle.format.specs.Sizes.{ipv4}
-use Prim.Native.Nat.{◌≤◌, ◌-◌}
 use mathlib.Core.Bool.{true}
 use mathlib.Core.Path.{◌≡◌}
 use lib.ListN.{length}
@@ -10,7 +9,4 @@ use Rattle.yard.specs.Inside.{Counted}
 use Rattle.yard.proofs.sheets_ok.Given as goal
 
 abbrev pub invariant-loop-i : goal.invariant-loop-i
-invariant-loop-i l = (l.i ≤ l.n) × (length l.counts ≡ length l.initial.counts) × (true ≡ every (valid_at ipv4 l.yard) l.i) × Counted ipv4 l.yard l.counts l.i
-
-abbrev pub decreases-loop-i : goal.decreases-loop-i
-decreases-loop-i l = l.n - l.i
+invariant-loop-i l = (length l.counts ≡ length l.initial.counts) × (true ≡ every (valid_at ipv4 l.yard) l.i) × Counted ipv4 l.yard l.counts l.i
