@@ -1,35 +1,8 @@
--- The difference of two arrival times: what the code computes, and that it is the only one.
-use Rattle.std.proofs.Common.{◌≡◌, ℕ, zero, suc, ◌+◌, ◌-◌, ◌%◌, ◌<◌, ◌≤◌, ltb, ℤ, pos, negsuc, ◌-ℤ◌, refl, ap, ◌∙◌, ⊎_elim, zero-add, arith, w32, SFits, to_z, of_z, ltb-false, ltb-true, le-ltb, lt-ltb}
+-- The difference of two arrival times is the only number in its range that leads from the one to the other.
+use Rattle.std.proofs.Common.{◌≡◌, ℕ, suc, ◌+◌, ◌-◌, ◌%◌, ◌<◌, ◌≤◌, ltb, ℤ, pos, negsuc, ap, ◌∙◌, ⊎_elim, arith, ltb-false, ltb-true, le-ltb, lt-ltb}
 use Rattle.rows.proofs.Laws.{decided}
-use mir.ValLaws.{to_z-of_z}
 use Rattle.clock.specs.Clock.{arrival_times}
 use Rattle.arrivals.specs.Difference.{half_times, apart, signed, difference_of, InRange, later_by}
-
--- what wraps round to later is later minus earlier
-pub is_apart : (n later earlier : ℕ) → n < arrival_times → later < arrival_times → earlier < arrival_times → (n + earlier) % arrival_times ≡ later
-    → n ≡ apart later earlier
-is_apart n later earlier h k l e = omega arith
-
-back : (m : ℕ) → negsuc 0 -ℤ pos m ≡ negsuc m
-back zero = refl
-back (suc m) = ap (λ (k : ℕ). negsuc (suc k)) (zero-add m)
-
--- back from 2^31 on
-module _ (n : ℕ) (h : half_times ≤ n) (k : n < arrival_times) where
-  steps : to_z w32 (4294967295 - n) ≡ pos (4294967295 - n)
-  steps = rw (lt-ltb (4294967295 - n) half_times (omega arith))
-
-  pub back_fits : SFits w32 (negsuc 0 -ℤ to_z w32 (4294967295 - n))
-  back_fits = rw (steps, back (4294967295 - n)) (record { sfits = omega arith })
-
-module _ (n later earlier : ℕ) (e : n ≡ apart later earlier) where
-  pub goes_forth : n < half_times → to_z w32 n ≡ difference_of later earlier
-  unfolding difference_of
-  goes_forth h = rw (← e, lt-ltb _ _ h)
-
-  pub goes_back : half_times ≤ n → n < arrival_times → to_z w32 (of_z w32 (negsuc 0 -ℤ to_z w32 (4294967295 - n))) ≡ difference_of later earlier
-  unfolding difference_of
-  goes_back h k = to_z-of_z w32 _ (back_fits n h k) ∙ rw (steps n h k, back (4294967295 - n), ← e, le-ltb _ _ h)
 
 -- later is earlier and the difference, modulo 2^32; the difference is in range; and no other number is both
 signed_range : (n : ℕ) → n < arrival_times → InRange (signed n)

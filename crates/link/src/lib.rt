@@ -2,11 +2,9 @@
 #![tactic(auto)]
 
 ghost use Rattle.std.specs.Prelude.{◌≡◌};
-ghost use Rattle.link.specs.Link.{count_of, not_counted, link_of, no_tally, verdict_of, tally_of};
+ghost use Rattle.link.specs.Link.{count_of, not_counted, link_of, verdict_of, tally_of};
 
 use standard::Standard;
-
-const ALL_ONES: u64 = 18446744073709551615;
 
 // What was sent into a link and received from it, as one Reply counts it.
 #[derive(Clone, Copy)]
@@ -16,7 +14,7 @@ pub struct Count {
 }
 
 // What a link sent and received between two Replies, and what was lost of what was sent.
-#[derive(Clone, Copy)]
+#[derive(Clone, Copy, Default)]
 pub struct Tally {
     pub sent: u64,
     pub received: u64,
@@ -46,13 +44,14 @@ pub fn count_of(near: Standard, far: Standard) -> Count
 fn not_counted(first: Count, second: Count) -> bool
     ensures { result ≡ not_counted first second }
 {
-    (first.sent == ALL_ONES)
-        | (first.received == ALL_ONES)
-        | (second.sent == ALL_ONES)
-        | (second.received == ALL_ONES)
+    (first.sent == u64::MAX)
+        | (first.received == u64::MAX)
+        | (second.sent == u64::MAX)
+        | (second.received == u64::MAX)
 }
 
 // The first name that applies to a link, or what was lost on it.
+#[tactic(auto, unfolding(crate::specs::Link::link_of, crate::specs::Link::names, rows::specs::Rows::by_first))]
 pub fn link_of(first: Count, second: Count) -> Link
     ensures { result ≡ link_of first second }
 {
@@ -74,37 +73,26 @@ pub fn link_of(first: Count, second: Count) -> Link
     })
 }
 
-// The number of a link's answer.
-pub fn verdict_of(l: Link) -> u8
-    ensures { result ≡ verdict_of l }
-{
-    match l {
-        Link::Counted(_) => 0,
-        Link::NotCounted => 1,
-        Link::Fallen => 2,
-        Link::Surplus => 3,
+impl Link {
+    // The number of a link's answer.
+    pub fn verdict(self) -> u8
+        ensures { result ≡ verdict_of self }
+    {
+        match self {
+            Link::Counted(_) => 0,
+            Link::NotCounted => 1,
+            Link::Fallen => 2,
+            Link::Surplus => 3,
+        }
     }
-}
 
-// No values.
-fn no_tally() -> Tally
-    ensures { result ≡ no_tally }
-{
-    Tally {
-        sent: 0,
-        received: 0,
-        lost: 0,
-    }
-}
-
-// The values of a link.
-pub fn tally_of(l: Link) -> Tally
-    ensures { result ≡ tally_of l }
-{
-    match l {
-        Link::Counted(t) => t,
-        Link::NotCounted => no_tally(),
-        Link::Fallen => no_tally(),
-        Link::Surplus => no_tally(),
+    // The values of a link that is counted; zeros for any other.
+    pub fn tally(self) -> Tally
+        ensures { result ≡ tally_of self }
+    {
+        match self {
+            Link::Counted(tally) => tally,
+            Link::NotCounted | Link::Fallen | Link::Surplus => Tally::default(),
+        }
     }
 }

@@ -22,7 +22,7 @@ use Rattle.standard.specs.Standard.{standard_of}
 use Rattle.reply.specs.Reader.{next_from}
 use Rattle.reply.specs.Copy.{begins_at, is_place, copied, copied_out, copied_next, copied_by}
 use Rattle.reply.specs.Inside.{FillsFrom}
-use Rattle.reply.proofs.Places.{none_or_some, end_none}
+use Rattle.reply.proofs.Places.{none_or_some, none_past}
 use Rattle.reply.proofs.Readable.{readable_known, known_fills}
 use Rattle.reply.proofs.Filled.{fills_first, fills_high, not_empty, size_read, fills_on}
 use Rattle.format.specs.Sizes.{ipv4, ipv4_sound}
@@ -63,10 +63,7 @@ module _ (s : List ℕ) (at : ℕ) (r : Reached s at) where
 goes_on : (s : List ℕ) (at : ℕ) → Reached s at → 0 < length (standards_from ipv4 s at) → at < length s
 goes_on s at r some =
     ⊎_elim (λ e. ltb-true _ _ e)
-    (λ e.
-    let end : at ≡ length s = omega (arith, fills_high s at r.fills, ltb-false at (length s) e) in
-    let none : length (standards_from ipv4 s at) ≡ 0 = ap (λ (p : ℕ). length (standards_from ipv4 s p)) end ∙ ap (λ (l : List ℕ). length l) (end_none s) in
-    absurd (omega arith))
+    (λ e. absurd (omega (arith, ap (λ (l : List ℕ). length l) (none_past s at (ltb-false at (length s) e)))))
     (decided (ltb at (length s)))
 
 -- behind the next type 4 block is such a place too

@@ -2,23 +2,24 @@
 use Prim.Native.Nat.{ℕ, ◌+◌, ◌-◌, ◌≤◌, ◌<◌}
 use mathlib.Core.Path.{◌≡◌, refl, sym, ap, ◌∙◌}
 use mathlib.Core.Bool.{true, false}
-use mathlib.Core.List.{List, ◌∷◌}
+use mathlib.Core.List.{List, [], ◌∷◌, map}
 use mathlib.Core.Logic.{⊎_elim}
 use native.Mathlib.Omega.{arith}
 use native.Mathlib.Nat.{add_assoc, add-zero}
 use borrow.Author.Tests.{eq-eqb, ne_eqb}
-use lib.Dec.{eqb}
-use lib.ListN.{length, get_or, drop, length-drop}
+use lib.ListN.{length, get_or, drop, length-take, length-drop}
 use lib.Seq.{get_or-drop}
 use Rattle.wire.specs.Numbers.{byte_at, be16}
+use Rattle.wire.specs.Parts.{part}
 use Rattle.wire.proofs.Laws.{be-drop}
 use Rattle.rows.proofs.Laws.{decided}
 use Rattle.header.specs.Format.{header_size, standard, standard_size}
 use Rattle.message.specs.Blocks.{begins, blocks_of, total_size, blocks_end}
 use Rattle.message.specs.Inside.{Head, block_at, standards_from}
-use Rattle.message.proofs.Laws.{there, begun, no_blocks_lem, blocks_on, standards_more, standards_same, size_standard, first_low}
-use Rattle.reply.specs.Inside.{first_or, Settled, FillsFrom}
-use Rattle.reply.proofs.Places.{end_none, settled_more}
+use Rattle.message.proofs.Laws.{there, begun, no_blocks_lem, blocks_on, standards_more, standards_same, size_standard, first_inside, first_parts}
+use Rattle.reply.specs.declared.KnownBlocks.{KnownBlocks}
+use Rattle.reply.specs.Inside.{FillsFrom, blocks_left, left_of}
+use Rattle.reply.proofs.Places.{none_or_some, none_past}
 use Rattle.format.specs.Sizes.{ipv4, ipv4_sound}
 
 -- so it is from the first block on
@@ -74,48 +75,69 @@ module _ (s : List ℕ) (at : ℕ) (f : FillsFrom s at) where
     pub standard_later : (byte_at s at ≡ standard → ⊥) → standards_from ipv4 s at ≡ standards_from ipv4 s (at + be16 s (at + 1))
     standard_later k = rw (← size_read) (standards_same ipv4_sound s at block refl not_empty (ne_eqb _ _ (λ e. k (sym kind_read ∙ e))))
 
--- a search that has come to a place of such a message
-pub record Sought (s : List ℕ) (place at : ℕ) : Type 0 where
-  pub fills : FillsFrom s at
-  pub same : standards_from ipv4 s place ≡ standards_from ipv4 s at
+-- an iterator over the type 4 blocks that has gone on: what it had left it has left still
+pub record Sought (start now : KnownBlocks) : Type 0 where
+  pub fills : FillsFrom now.reply.now now.place
+  pub same : left_of start ≡ left_of now
 
-pub sought_first : (s : List ℕ) (place : ℕ) → FillsFrom s place → Sought s place place
-sought_first s place f = record { fills = f; same = refl }
+pub sought_first : (blocks : KnownBlocks) → FillsFrom blocks.reply.now blocks.place → Sought blocks blocks
+sought_first blocks f = record { fills = f; same = refl }
 
-module _ (s : List ℕ) (place at : ℕ) (g : Sought s place at) where
+module _ (start now : KnownBlocks) (g : Sought start now) where
+  abbrev s : List ℕ
+  s = now.reply.now
+
+  abbrev at : ℕ
+  at = now.place
+
   module _ (low : at < length s) where
-    pub sought_here : byte_at s at ≡ standard → at ≡ first_or (length s) (standards_from ipv4 s place)
-    unfolding first_or
-    sought_here k = rw (g.same, standard-here s at g.fills low k)
-
     pub sought_inside : at + 1 + 2 ≤ length s
     sought_inside = head_inside s at g.fills low
 
     module _ (size : ℕ) (e : size ≡ be16 s (at + 1)) where
-      pub sought_on : (byte_at s at ≡ standard → ⊥) → Sought s place (at + size)
-      sought_on k = rw e (record { fills = fills_on s at g.fills low; same = g.same ∙ standard_later s at g.fills low k })
+      abbrev behind : KnownBlocks
+      behind = record { reply = now.reply; place = at + size }
+
+      pub sought_fills : FillsFrom s (at + size)
+      sought_fills = rw e (fills_on s at g.fills low)
 
       pub sought_fits : at + size ≤ length s
-      sought_fits = rw e (fills_high s (at + be16 s (at + 1)) (fills_on s at g.fills low))
+      sought_fits = fills_high s (at + size) sought_fills
 
       pub sought_moves : length s - (at + size) < length s - at
       sought_moves = rw e (fills_moves s at g.fills low)
 
-  pub sought_over : length s ≤ at → at ≡ first_or (length s) (standards_from ipv4 s place)
-  unfolding first_or
-  sought_over h = let end : at ≡ length s = omega (arith, fills_high s at g.fills) in rw (g.same, end, end_none s)
+      pub sought_on : (byte_at s at ≡ standard → ⊥) → Sought start behind
+      unfolding blocks_left
+      sought_on k = record { fills = sought_fills; same = g.same ∙ ap (map (λ p. part p standard_size s)) (rw e (standard_later s at g.fills low k)) }
 
--- behind a type 4 block that a search came to
-pub fills_behind : (s : List ℕ) (at : ℕ) → FillsFrom s at → Settled s at → at < length s → FillsFrom s (at + standard_size)
-fills_behind s at f settled low =
+      -- a type 4 block begins here
+      module _ (k : byte_at s at ≡ standard) where
+        sized : size ≡ standard_size
+        sized =
+            e ∙ sym (size_read s at g.fills low)
+            ∙ size_standard ipv4_sound s at (block s at g.fills low) refl (not_empty s at g.fills low) (eq-eqb _ _ (kind_read s at g.fills low ∙ k))
+
+        pub sought_block : at + standard_size ≤ length s
+        sought_block = omega (arith, sized, sought_fits)
+
+        pub sought_here : left_of start ≡ part at standard_size s ∷ left_of behind
+        unfolding blocks_left
+        sought_here = g.same ∙ rw (standard-here s at g.fills low k, size_read s at g.fills low, ← e)
+
+  pub sought_over : length s ≤ at → (left_of start ≡ []) × (left_of now ≡ [])
+  unfolding blocks_left
+  sought_over h = let over : left_of now ≡ [] = rw (none_past s at h) in (g.same ∙ over, over)
+
+-- each of the blocks left is of 52 bytes
+pub item_long : (s : List ℕ) (place : ℕ) (block : List ℕ) (others : List (List ℕ)) → blocks_left s place ≡ block ∷ others → length block ≡ standard_size
+unfolding blocks_left
+item_long s place block others e =
     ⊎_elim
-    (λ e.
-    let size : be16 s (at + 1) ≡ standard_size = sym (size_read s at f low) ∙ size_standard ipv4_sound s at (block_at ipv4 s at) refl (not_empty s at f low) e in
-    rw size at (fills_on s at f low))
-    (λ e.
-    let later : standards_from ipv4 s at ≡ standards_from ipv4 s (at + (block_at ipv4 s at).size) = standards_same ipv4_sound s at (block_at ipv4 s at) refl (not_empty s at f low) e in
-    let parts : standards_from ipv4 s (at + (block_at ipv4 s at).size) ≡ at ∷ standards_from ipv4 s (at + standard_size) = sym later ∙ settled_more s at settled low in
-    let some : 0 < length (standards_from ipv4 s (at + (block_at ipv4 s at).size)) = rw parts (omega arith) in
-    let first : get_or (standards_from ipv4 s (at + (block_at ipv4 s at).size)) 0 0 ≡ at = rw parts in
-    absurd (omega (arith, first_low ipv4_sound s (at + (block_at ipv4 s at).size) some, not_empty s at f low)))
-    (decided (eqb (block_at ipv4 s at).kind standard))
+    (λ none. let nothing : [] ≡ block ∷ others = rw none at e in cc)
+    (λ some.
+    let at : ℕ = get_or (standards_from ipv4 s place) 0 0 in
+    let same : part at standard_size s ≡ block = ap (λ (l : List (List ℕ)). get_or l 0 []) (rw (first_parts ipv4_sound s place some) at e) in
+    ap (λ (l : List ℕ). length l) (sym same)
+    ∙ (length-take standard_size (drop at s) ∙ rw (length-drop at s) (omega (arith, first_inside ipv4_sound s place some))))
+    (none_or_some (standards_from ipv4 s place))

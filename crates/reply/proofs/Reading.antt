@@ -13,15 +13,14 @@ use Rattle.header.specs.Format.{header_size, standard_size}
 use Rattle.message.specs.Blocks.{standards, standard_blocks}
 use Rattle.message.specs.Inside.{standards_from}
 use Rattle.message.proofs.Laws.{all_standards, first_parts}
-use Rattle.reply.proofs.Places.{end_none}
+use Rattle.reply.proofs.Places.{none_past}
 use Rattle.rows.specs.Rows.{first_of}
 use Rattle.rows.proofs.Laws.{first_or_none, first_is, none_is}
 use Rattle.standard.specs.declared.Standard.{Standard}
-use Rattle.reply.specs.declared.Handed.{Handed}
 use Rattle.reply.specs.declared.Reader.{Reader}
 use Rattle.standard.specs.Standard.{standard_of, standard_in}
 use Rattle.reply.specs.Check.{reply_rows, Readable}
-use Rattle.reply.specs.Reader.{standards_in, blocks_in, start_of, handed_by, next_from, Opens, Calls, not_again, again, blocks_out}
+use Rattle.reply.specs.Reader.{Handed, standards_in, blocks_in, start_of, handed_by, next_from, Opens, Calls, not_again, again, blocks_out}
 use Rattle.format.specs.Sizes.{ipv4, ipv4_sound}
 
 -- the blocks left from a place on
@@ -71,7 +70,7 @@ start_left s =
     ⊎_elim
     (λ f.
     let n : ℕ = first_of (reply_rows s) in
-    rw (first_is (λ _. length s) header_size (reply_rows s) n f, first_is (λ _. []) (standards_in s) (reply_rows s) n f, end_none s))
+    rw (first_is (λ _. length s) header_size (reply_rows s) n f, first_is (λ _. []) (standards_in s) (reply_rows s) n f, none_past s (length s) (omega arith)))
     (λ none. rw (none_is (λ _. length s) header_size (reply_rows s) none, none_is (λ _. []) (standards_in s) (reply_rows s) none) (left_all s))
     (first_or_none (reply_rows s))
 

@@ -1,65 +1,85 @@
 -- What each turn of the search for a type 4 block shows, and what is handed out of what it found.
-use Prim.Native.Nat.{ℕ, ◌+◌, ◌≤◌, ◌<◌}
-use mathlib.Core.Path.{◌≡◌, refl, sym, ◌∙◌}
-use mathlib.Core.Bool.{true, false}
+use Prim.Native.Nat.{ℕ, ◌+◌, ◌-◌, ◌≤◌, ◌<◌}
+use mathlib.Core.Path.{◌≡◌, refl, sym, ap, ◌∙◌}
+use mathlib.Core.Bool.{Bool, true, false, true≢false}
 use mathlib.Core.List.{List, [], ◌∷◌}
+use mathlib.Core.Logic.{⊎_elim}
 use native.Mathlib.Omega.{arith}
-use borrow.Author.Tests.{eq-eqb, ne_eqb}
-use lib.ListN.{length, get_or}
-use Rattle.header.specs.Format.{standard, standard_size}
-use Rattle.message.specs.Inside.{Head, no_block, block_at, standards_from}
-use Rattle.message.proofs.Laws.{standards_over, standards_more, standards_same, none_short, first_inside}
-use Rattle.standard.specs.declared.Standard.{Standard}
-use Rattle.standard.specs.Standard.{standard_in, no_standard}
-use Rattle.reply.specs.Reader.{handed_by, next_from}
-use Rattle.reply.specs.Inside.{first_or}
+use denote.Enum.Bare.{sameb}
+use lib.ListN.{length, get_or, drop}
+use Rattle.std.specs.Prelude.{Option, Some, None, slice_get}
+use Rattle.header.specs.declared.BlockKind.TheVariants.{Standard}
+use Rattle.header.specs.contracts.BlockKind.{the_type}
+use Rattle.header.specs.Format.{standard_size}
+use Rattle.message.specs.declared.BlockHead.{BlockHead}
+use Rattle.message.specs.Blocks.{begins}
+use Rattle.message.specs.Inside.{Head, head_of, block_at, standards_from}
+use Rattle.message.proofs.Once.{typed, kind_told}
+use Rattle.message.proofs.Laws.{begun, standards_over, standards_more, standards_same, size_inside, moves_on, first_parts}
+use Rattle.rows.proofs.Laws.{decided}
+use Rattle.standard.specs.declared.Standard.{Standard as Block}
+use Rattle.standard.specs.Standard.{standard_in}
+use Rattle.reply.specs.Reader.{Handed, handed, handed_by, next_from}
+use Rattle.reply.proofs.Places.{none_past, found_parts}
 use Rattle.format.specs.Sizes.{ipv4, ipv4_sound}
 
-module _ (s : List ℕ) (place at : ℕ) (block : Head) (b : block ≡ block_at ipv4 s at) (so_far : standards_from ipv4 s place ≡ standards_from ipv4 s at) where
-  pub found_none : block.size ≡ 0 → length s ≡ first_or (length s) (standards_from ipv4 s place)
-  unfolding first_or
-  found_none z = rw (so_far, standards_over ipv4_sound s at block b z)
+-- a block that is read is not empty
+module _ (s : List ℕ) (at : ℕ) (block : BlockHead) (b : head_of (Some block) ≡ block_at ipv4 s at) where
+  some_size : block.size ≡ 0 → ⊥
+  unfolding block_at
+  some_size z =
+      ⊎_elim
+      (λ t. omega (arith, z, (begun ipv4_sound (drop at s) t).least, ap (λ (h : Head). h.size) (rw t at b)))
+      (λ t. typed block.kind (ap (λ (h : Head). h.kind) (rw t at b)))
+      (decided (begins ipv4 (drop at s)))
 
-  module _ (some : block.size ≡ 0 → ⊥) where
-    pub found_here : block.kind ≡ standard → at ≡ first_or (length s) (standards_from ipv4 s place)
-    unfolding first_or
-    found_here k = rw (so_far, standards_more ipv4_sound s at block b some (eq-eqb _ _ k))
+  pub search_inside : at ≤ length s → at + block.size ≤ length s
+  search_inside = size_inside ipv4_sound s at (head_of (Some block)) b some_size
 
-    pub goes_on : (block.kind ≡ standard → ⊥) → standards_from ipv4 s place ≡ standards_from ipv4 s (at + block.size)
-    goes_on k = so_far ∙ standards_same ipv4_sound s at block b some (ne_eqb _ _ k)
+  pub search_moves : at ≤ length s → length s - (at + block.size) < length s - at
+  search_moves = moves_on ipv4_sound s at (head_of (Some block)) b some_size
 
--- past the end there is no block
-pub past_end : (s : List ℕ) (place : ℕ) → length s < place → length s ≡ first_or (length s) (standards_from ipv4 s place)
-unfolding first_or
-past_end s place h = rw (standards_over ipv4_sound s place no_block (none_short ipv4_sound s place (omega arith)) refl)
+  module _ (place : ℕ) (so_far : standards_from ipv4 s place ≡ standards_from ipv4 s at) (one : Bool) (told : one ≡ sameb the_type block.kind Standard) where
+    pub search_found : one ≡ true → Some at ≡ slice_get (standards_from ipv4 s place) 0
+    search_found t = rw (so_far, standards_more ipv4_sound s at (head_of (Some block)) b some_size (sym (kind_told block.kind) ∙ sym told ∙ t))
 
--- what is handed out of the places left: nothing where the first of them is the end; else the block there, which lies within
-module _ (s : List ℕ) (place at : ℕ) where
-  record Hands (places : List ℕ) : Type 0 where
-    none : at ≡ length s → handed_by s place places ≡ record { found = false; place = place; block = no_standard }
-    inside : (at ≡ length s → ⊥) → at + standard_size ≤ length s
-    one : (at ≡ length s → ⊥) → handed_by s place places ≡ record { found = true; place = at + standard_size; block = standard_in s at }
+    pub search_on : one ≡ false → standards_from ipv4 s place ≡ standards_from ipv4 s (at + block.size)
+    search_on t = so_far ∙ standards_same ipv4_sound s at (head_of (Some block)) b some_size (sym (kind_told block.kind) ∙ sym told ∙ t)
 
-  by_places : (places : List ℕ) → at ≡ first_or (length s) places → (0 < length places → get_or places 0 0 + standard_size ≤ length s) → Hands places
-  unfolding first_or
-  by_places [] e within = record { none = λ z. refl; inside = λ some. absurd (some e); one = λ some. absurd (some e) }
-  by_places (p ∷ places) e within =
-      let same : at ≡ p = e in
-      let h : p + standard_size ≤ length s = within (omega arith) in
-      record { none = λ z. absurd (omega arith); inside = λ some. omega arith; one = λ some. rw same }
+-- where none is read the search is over; past the end there is none
+pub search_over : (s : List ℕ) (at place : ℕ) (block : Option BlockHead) → head_of block ≡ block_at ipv4 s at → block ≡ None
+    → standards_from ipv4 s place ≡ standards_from ipv4 s at → None ≡ slice_get (standards_from ipv4 s place) 0
+search_over s at place block b none so_far =
+    rw (so_far, standards_over ipv4_sound s at (head_of block) b (ap (λ (o : Option BlockHead). (head_of o).size) none))
 
-  module _ (e : at ≡ first_or (length s) (standards_from ipv4 s place)) where
-    hands : Hands (standards_from ipv4 s place)
-    hands = by_places (standards_from ipv4 s place) e (first_inside ipv4_sound s place)
+pub search_past : (s : List ℕ) (place : ℕ) → length s < place → None ≡ slice_get (standards_from ipv4 s place) 0
+search_past s place h = rw (none_past s place (omega arith))
 
-    pub hands_none : (block : Standard) → at ≡ length s → block ≡ no_standard → record { found = false; place = place; block = block } ≡ next_from s place
-    unfolding next_from standards_from
-    hands_none block z b = rw b (sym (hands.none z))
+-- what is handed out: nothing where none was found, else the block there
+nothing_first : (s : List ℕ) (place : ℕ) (places : List ℕ) → None ≡ slice_get places 0 → places ≡ []
+nothing_first s place [] e = refl
+nothing_first s place (p ∷ places) e = cc
 
-    pub found_inside : (at ≡ length s → ⊥) → at + standard_size ≤ length s
-    found_inside = hands.inside
+pub hands_none : (s : List ℕ) (place : ℕ) → None ≡ slice_get (standards_from ipv4 s place) 0 → handed place None ≡ next_from s place
+unfolding next_from standards_from
+hands_none s place e = rw (nothing_first s place (standards_from ipv4 s place) e)
 
-    pub hands_it : (block : Standard) → (at ≡ length s → ⊥) → block ≡ standard_in s at
-        → record { found = true; place = at + standard_size; block = block } ≡ next_from s place
-    unfolding next_from standards_from
-    hands_it block some b = rw b (sym (hands.one some))
+pub hands_it : (s : List ℕ) (place at : ℕ) → Some at ≡ slice_get (standards_from ipv4 s place) 0
+    → handed place (Some (standard_in s at, at + standard_size)) ≡ next_from s place
+unfolding next_from standards_from
+hands_it s place at e = rw (found_parts s place at e)
+
+-- and what is left behind it is less
+module _ (s : List ℕ) (place behind : ℕ) (block : Block) where
+  fewer_by : (places : List ℕ) → record { found = true; place = behind; block = block } ≡ handed_by s place places
+      → (0 < length places → places ≡ get_or places 0 0 ∷ standards_from ipv4 s (get_or places 0 0 + standard_size))
+      → length (standards_from ipv4 s behind) < length places
+  fewer_by [] e parts = absurd (true≢false (ap (λ (h : Handed). h.found) e))
+  fewer_by (at ∷ places) e parts =
+      let same : behind ≡ at + standard_size = ap (λ (h : Handed). h.place) e in
+      let left : places ≡ standards_from ipv4 s (at + standard_size) = ap (drop 1) (parts (omega arith)) in
+      rw (same, ← left) (omega arith)
+
+  pub hands_fewer : handed place (Some (block, behind)) ≡ next_from s place → length (standards_from ipv4 s behind) < length (standards_from ipv4 s place)
+  unfolding next_from standards_from
+  hands_fewer e = fewer_by (standards_from ipv4 s place) e (first_parts ipv4_sound s place)

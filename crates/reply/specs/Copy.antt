@@ -1,12 +1,11 @@
 -- The next block by its place, for callers that hold no reader: 52 bytes are lent for it, and all is checked at each call.
-use Rattle.std.specs.Prelude.{ℕ, zero, suc, Bool, true, false, cond, ◌&&◌, ◌||◌, List, [], ◌∷◌, leb, eqb, length, take}
+use Rattle.std.specs.Prelude.{ℕ, zero, suc, Bool, true, false, cond, ◌&&◌, ◌||◌, List, [], ◌∷◌, leb, eqb, length, take, Option, Some, None}
 use Rattle.rows.specs.Rows.{by_first}
 use Rattle.wire.specs.Parts.{splice}
 use Rattle.header.specs.Format.{standard_size}
 use Rattle.message.specs.Blocks.{Placed, blocks_of}
-use Rattle.reply.specs.declared.Handed.{Handed}
 use Rattle.reply.specs.Check.{reply_rows}
-use Rattle.reply.specs.Reader.{next_from}
+use Rattle.reply.specs.Reader.{Handed, next_from}
 use Rattle.format.specs.Sizes.{ipv4}
 
 -- one of some blocks begins at a place
@@ -39,6 +38,10 @@ unfoldable pub copied_next : List ℕ → ℕ → List ℕ → Copied
 copied_next s place block =
     let out = copied_out (next_from s place) block in
     cond (leb standard_size (length block) && is_readable s && is_place s place) out (copied 0 block)
+
+-- the answer as code has it: 0 is no place
+abbrev pub place_behind : ℕ → Option ℕ
+place_behind answer = cond (eqb answer 0) None (Some answer)
 
 -- what so many calls hand out, by the first 52 bytes that each leaves: the place of each is what the one before answered, and the same bytes
 -- are lent to all. An answer of 0 ends them

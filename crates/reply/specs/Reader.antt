@@ -1,11 +1,10 @@
 -- What a reader hands out (document 02, M-100): one type 4 block per call, Augmented ones skipped, and after the last one nothing.
-use Rattle.std.specs.Prelude.{ℕ, ◌+◌, true, false, cond, List, [], ◌∷◌, map, ◌≡◌, length, drop}
+use Rattle.std.specs.Prelude.{ℕ, ◌+◌, Bool, true, false, cond, List, [], ◌∷◌, map, ◌≡◌, length, drop, Option, Some, None}
 use Rattle.std.specs.Borrow.{Bor}
 use Rattle.rows.specs.Rows.{by_first}
 use Rattle.header.specs.Format.{header_size, standard_size}
 use Rattle.message.specs.Blocks.{blocks_from, standard_places, standard_blocks}
 use Rattle.standard.specs.declared.Standard.{Standard}
-use Rattle.reply.specs.declared.Handed.{Handed}
 use Rattle.reply.specs.declared.Reader.{Reader}
 use Rattle.reply.specs.Check.{reply_rows}
 use Rattle.standard.specs.Standard.{standard_of, standard_in, no_standard}
@@ -22,6 +21,21 @@ blocks_in s = by_first (λ _. []) (standards_in s) (reply_rows s)
 -- where a reader begins: at the first block; at the end of what is refused
 unfoldable pub start_of : List ℕ → ℕ
 start_of s = by_first (λ _. length s) header_size (reply_rows s)
+
+-- what a call hands out: whether there was a block, the place from which the next call goes on, and the block, or zeros where none is left
+pub record Handed : Type 0 where
+  pub found : Bool
+  pub place : ℕ
+  pub block : Standard
+
+-- as code has it: from a place, a block and the place behind it; and a block, by the place at which a reader is left
+abbrev pub handed : ℕ → Option (Standard × ℕ) → Handed
+handed place None = record { found = false; place = place; block = no_standard }
+handed place (Some (block, behind)) = record { found = true; place = behind; block = block }
+
+abbrev pub handed_at : ℕ → Option Standard → Handed
+handed_at place None = record { found = false; place = place; block = no_standard }
+handed_at place (Some block) = record { found = true; place = place; block = block }
 
 -- one call hands out the first of the type 4 blocks that are left, by their places, and goes on behind it; where none is left nothing,
 -- and the place stays

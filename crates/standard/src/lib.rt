@@ -18,7 +18,7 @@ const S_BIT: u8 = 128;
 // A Standard Response Block: its 52 bytes as they came, and its fields. `routing` and `multicast` are the protocols' numbers.
 #[derive(Clone, Copy)]
 pub struct Standard {
-    pub bytes: [u8; 52],
+    pub bytes: [u8; format::STANDARD_SIZE],
     pub time: u32,
     pub incoming: u32,
     pub outgoing: u32,
@@ -35,7 +35,8 @@ pub struct Standard {
 }
 
 // The fields of a block's bytes, beside them.
-pub fn standard_of(bytes: [u8; 52]) -> Standard
+#[tactic(auto, unfolding(crate::specs::Standard::standard_of))]
+pub fn standard_of(bytes: [u8; format::STANDARD_SIZE]) -> Standard
     ensures { result ≡ standard_of bytes }
 {
     Standard {
@@ -61,7 +62,7 @@ pub fn standard_at(s: &[u8], at: usize) -> Standard
     requires { at + standard_size ≤ length s.now }
     ensures { result ≡ standard_in s.now at }
 {
-    let mut bytes = [0u8; 52];
-    wire::copy_to(&mut bytes, 0, &s[at..at + format::STANDARD_SIZE]);
+    let mut bytes = [0; format::STANDARD_SIZE];
+    bytes.copy_from_slice(&s[at..at + format::STANDARD_SIZE]);
     standard_of(bytes)
 }

@@ -8,7 +8,7 @@ use Rattle.format.specs.Sizes.{ipv4}
 use Rattle.reply.proofs.next_at.Given as goal
 
 abbrev pub invariant-loop-block : goal.invariant-loop-block
-invariant-loop-block l = (l.at ≤ length l.s) × (standards_from ipv4 l.s l.place ≡ standards_from ipv4 l.s l.at)
+invariant-loop-block l = record { inside : l.at ≤ length l.s; same : standards_from ipv4 l.s l.place ≡ standards_from ipv4 l.s l.at }
 
 abbrev pub decreases-loop-block : goal.decreases-loop-block
 decreases-loop-block l = length l.s - l.at

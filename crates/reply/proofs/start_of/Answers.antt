@@ -1,9 +1,6 @@
--- `start_of`: the first block where the check accepts, else the end.
-use Rattle.reply.proofs.Rows.{starts_first, starts_last}
+-- `start_of`: the end of what is refused.
+use Rattle.reply.proofs.Rows.{starts_last}
 use Rattle.reply.proofs.start_of.Goals as goal
 
-pub returns-then-check-eq0 : goal.returns-then-check-eq0
-returns-then-check-eq0 c = search starts_first
-
-pub returns : goal.returns
-returns c = search starts_last
+pub returns-in-Err : goal.returns-in-Err
+returns-in-Err c = starts_last c.args.s.now c.in-Err.field-0 c.in-Err.ensures
