@@ -1,8 +1,9 @@
 -- The clock: what starting it and each new reading give. Units are 1/65536 s since NTP era 0, from 0 to 2^48 - 1.
-use Rattle.std.specs.Prelude.{ℕ, ◌+◌, ◌-◌, ◌/◌, ◌%◌, min, max, Bool, cond, ◌||◌, List, [], ◌∷◌, ltb, eqb}
+use Rattle.std.specs.Prelude.{ℕ, ◌+◌, ◌-◌, ◌/◌, ◌%◌, min, max, Bool, cond, ◌||◌, List, [], ◌∷◌, ltb, eqb, Result, Ok, Err}
 use Rattle.rows.specs.Rows.{Row, row, by_first}
+use Rattle.refusal.specs.declared.Refusal.{Refusal}
+use Rattle.refusal.specs.Refusal.{number}
 use Rattle.clock.specs.declared.Clock.{Clock}
-use Rattle.clock.specs.declared.Tick.{Tick}
 
 -- the last time there is: 2^48 - 1
 abbrev pub last_time : ℕ
@@ -24,6 +25,12 @@ clock_state = 33
 abbrev pub clock_of : ℕ → ℕ → Clock
 clock_of r y = record { r = r; y = y }
 
+-- what a reading gave: the number (0, or why it was refused), the clock to go on with, the time issued
+pub record Tick : Type 0 where
+  pub number : ℕ
+  pub clock : Clock
+  pub time : ℕ
+
 -- accepted: the number is 0, and the time issued is the new clock's y
 abbrev pub issued : ℕ → ℕ → Tick
 issued r y = record { number = 0; clock = clock_of r y; time = y }
@@ -31,6 +38,11 @@ issued r y = record { number = 0; clock = clock_of r y; time = y }
 -- refused by a number: a clock to go on with, and time 0
 abbrev pub refused_tick : ℕ → Clock → Tick
 refused_tick n c = record { number = n; clock = c; time = 0 }
+
+-- what an answer to a reading says: a clock has issued its y; an error refuses by its number, and the clock is the one given
+abbrev pub tick_of : Clock → Result Clock Refusal → Tick
+tick_of c (Ok k) = issued k.r k.y
+tick_of c (Err refusal) = refused_tick (number refusal) c
 
 -- a time above the last one. A reading below the last: y + 1. Else, d = t - r: the largest of t, y + floor(d/2) and y + 1, but at
 -- most 2^48 - 1

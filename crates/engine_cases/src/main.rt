@@ -1,13 +1,16 @@
-// Runs the engine's step on the cases of standard input, and writes a line for each; then how often
-// each answer and each code was met. Command 0 writes a label, 1 to 5 change the message, the sheet,
-// the recent list, the output and the record, and 6 runs a step.
+// Runs the engine's step on the cases of standard input, and writes a line for each; then how often each answer and each code was
+// met. Command 0 writes a label, 1 to 5 change the message, the sheet, the recent list, the output and the record, and 6 runs a step.
 #![tactic(auto)]
 
+use drops::Arrival;
+use refusal::Refusal;
+use sending::Answer;
 use std::io;
-use std::io::{BufReader, BufWriter, Read, Write};
+use std::io::Write;
+use tape::{Cases, Command, Counts};
 
-// Areas longer than what is lent from them, so that their tails are seen to stay. The message's
-// has room for a length that would pass if it were cut to 16 bits.
+// Areas longer than what is lent from them, so that their tails are seen to stay. The message's has room for a length that would
+// pass if it were cut to 16 bits.
 const MESSAGE: usize = 65600;
 
 const SHEET: usize = 8704;
@@ -18,159 +21,86 @@ const OUTPUT: usize = 1600;
 
 const RECORD: usize = 64;
 
-fn print_digests(
-    out: &mut impl Write,
-    recent: &[u8],
-    output: &[u8],
-    record: &[u8],
-) -> io::Result<()> {
-    tape::then(out, tape::digest(output))?;
-    tape::then(out, tape::digest(record))?;
-    tape::then(out, tape::digest(recent))?;
-    tape::end(out)
+#[derive(Drop)]
+struct Areas {
+    message: [u8; MESSAGE],
+    sheet: [u8; SHEET],
+    recent: [u8; RECENT],
+    output: [u8; OUTPUT],
+    record: [u8; RECORD],
+    answers: Counts,
+    codes: Counts,
 }
 
-// The code at place `at` of what was sent.
-fn code(output: &[u8], at: usize) -> u8 {
-    if at < output.len() { output[at] } else { 0 }
-}
-
-// Runs a step on the first bytes of the areas, as many as the command says, and answers its number.
-fn step(
-    command: &[u8; 32],
-    message: &[u8],
-    sheet: &[u8],
-    recent: &mut [u8],
-    output: &mut [u8],
-    record: &mut [u8],
-) -> u32 {
-    let destination = tape::number32(command, 16);
-    let receiving = tape::number32(command, 20);
-    let ttl = tape::number32(command, 24);
-    let time = tape::number32(command, 28);
-    let m = tape::lent(tape::number32(command, 4), message);
-    let s = tape::lent(tape::number16(command, 8) as u32, sheet);
-    let l = tape::lent(tape::number16(command, 10) as u32, recent);
-    let o = tape::lent(tape::number16(command, 12) as u32, output);
-    let r = tape::lent(tape::number16(command, 14) as u32, record);
-    engine::step(
-        &message[..m],
-        destination,
-        receiving,
-        ttl,
-        time,
-        &sheet[..s],
-        &mut recent[..l],
-        &mut output[..o],
-        &mut record[..r],
-    )
-}
-
-// Runs a step, and writes its answer, the code if something was sent, and a digest of each area.
-fn call(
-    out: &mut impl Write,
-    command: &[u8; 32],
-    message: &[u8],
-    sheet: &[u8],
-    recent: &mut [u8],
-    output: &mut [u8],
-    record: &mut [u8],
-    answers: &mut [u64; 256],
-    codes: &mut [u64; 256],
-) -> io::Result<()> {
-    let answer = step(command, message, sheet, recent, output, record);
-    tape::text(out, b" ->")?;
-    tape::then(out, answer as u64)?;
-    tape::count(answers, answer);
-    if answer >= 100 {
-        let c = code(output, tape::number16(command, 2) as usize);
-        tape::then_byte(out, c)?;
-        tape::count(codes, c as u32);
+impl Areas {
+    // Runs a step on the first bytes of the areas, as many as the command says.
+    fn step(&mut self, command: &Command) -> Result<Answer, Refusal> {
+        engine::step(
+            Arrival {
+                message: tape::lent(&self.message, command.number32(4)),
+                destination: command.number32(16),
+                receiving: command.number32(20),
+                ttl: command.number32(24),
+            },
+            command.number32(28),
+            tape::lent(&self.sheet, command.number16(8).into()),
+            tape::lent_mut(&mut self.recent, command.number16(10).into()),
+            tape::lent_mut(&mut self.output, command.number16(12).into()),
+            tape::lent_mut(&mut self.record, command.number16(14).into()),
+        )
     }
-    print_digests(out, recent, output, record)
-}
 
-// Runs the next command, and answers whether there may be more.
-fn run(
-    input: &mut impl Read,
-    out: &mut impl Write,
-    message: &mut [u8],
-    sheet: &mut [u8],
-    recent: &mut [u8],
-    output: &mut [u8],
-    record: &mut [u8],
-    answers: &mut [u64; 256],
-    codes: &mut [u64; 256],
-) -> io::Result<bool> {
-    let mut command = [0u8; 32];
-    if !tape::next(input, &mut command)? {
-        return Ok(false);
-    }
-    let operation = command[0];
-    if operation == 0 {
-        tape::label(out, &command)?;
-    } else if operation == 1 {
-        tape::put(message, &command);
-    } else if operation == 2 {
-        tape::put(sheet, &command);
-    } else if operation == 3 {
-        tape::put(recent, &command);
-    } else if operation == 4 {
-        tape::put(output, &command);
-    } else if operation == 5 {
-        tape::put(record, &command);
-    } else {
-        call(
-            out, &command, message, sheet, recent, output, record, answers, codes,
-        )?;
-    }
-    Ok(true)
-}
-
-// Nothing says that the input ends, so the loop counts its turns up to more than are stored.
-fn run_all(
-    input: &mut impl Read,
-    out: &mut impl Write,
-    message: &mut [u8],
-    sheet: &mut [u8],
-    recent: &mut [u8],
-    output: &mut [u8],
-    record: &mut [u8],
-    answers: &mut [u64; 256],
-    codes: &mut [u64; 256],
-) -> io::Result<()> {
-    for _ in 0..1000000 {
-        if !run(
-            input, out, message, sheet, recent, output, record, answers, codes,
-        )? {
-            break;
+    // Runs a step, and writes its answer, the code if something was sent, and a digest of each area.
+    fn call(&mut self, command: &Command, out: &mut impl Write) -> io::Result<()> {
+        let told = self.step(command);
+        let number = told.map_or_else(u32::from, u32::from);
+        write!(out, " -> {number}")?;
+        self.answers.count(number);
+        if told.is_ok() {
+            let code = self.code(command.number16(2).into());
+            write!(out, " {code}")?;
+            self.codes.count(code.into());
         }
+        write!(out, " {}", tape::digest(&self.output))?;
+        write!(out, " {}", tape::digest(&self.record))?;
+        writeln!(out, " {}", tape::digest(&self.recent))
     }
-    Ok(())
+
+    // The code at a place of what was sent.
+    fn code(&self, at: usize) -> u8 {
+        self.output.get(at).copied().unwrap_or(0)
+    }
+}
+
+impl Cases for Areas {
+    fn run(&mut self, command: &Command, out: &mut impl Write) -> io::Result<()> {
+        match command.operation() {
+            0 => command.label(out)?,
+            1 => command.put(&mut self.message),
+            2 => command.put(&mut self.sheet),
+            3 => command.put(&mut self.recent),
+            4 => command.put(&mut self.output),
+            5 => command.put(&mut self.record),
+            _ => self.call(command, out)?,
+        }
+        Ok(())
+    }
+
+    fn end(&self, out: &mut impl Write) -> io::Result<()> {
+        self.answers.print("answer", out)?;
+        self.codes.print("code", out)
+    }
 }
 
 fn main(rt: HostRuntime) -> io::Result<()> {
-    let mut input = BufReader::new(rt.alloc(), rt.stdin())?;
-    let mut out = BufWriter::new(rt.alloc(), rt.stdout())?;
-    let mut message = [0u8; MESSAGE];
-    let mut sheet = [0u8; SHEET];
-    let mut recent = [0u8; RECENT];
-    let mut output = [0u8; OUTPUT];
-    let mut record = [0u8; RECORD];
-    let mut answers = [0u64; 256];
-    let mut codes = [0u64; 256];
-    run_all(
-        &mut input,
-        &mut out,
-        &mut message,
-        &mut sheet,
-        &mut recent,
-        &mut output,
-        &mut record,
-        &mut answers,
-        &mut codes,
-    )?;
-    tape::print_table(&mut out, b"answer", &answers)?;
-    tape::print_table(&mut out, b"code", &codes)?;
-    out.flush()
+    let mut areas = Areas {
+        message: [0; MESSAGE],
+        sheet: [0; SHEET],
+        recent: [0; RECENT],
+        output: [0; OUTPUT],
+        record: [0; RECORD],
+        answers: Counts::new(),
+        codes: Counts::new(),
+    };
+    tape::play(&rt, &mut areas)
 }

@@ -1,96 +1,58 @@
-// Runs the recent list on the cases of standard input, and writes a line for each. Command 0 writes a
-// label, 1 changes the list, 2 checks its first bytes, 3 looks for a client and an id, and 4 enters them.
+// Runs the recent list on the cases of standard input, and writes a line for each. Command 0 writes a label, 1 changes the list, 2
+// checks its first bytes, 3 looks for a client and an id, and 4 enters them.
 #![tactic(auto)]
 
+use recent::LIST_SIZE;
 use std::io;
-use std::io::{BufReader, BufWriter, Read, Write};
+use std::io::Write;
+use tape::{Cases, Command};
 
-// Room for more than a list, so that its tail is seen to stay.
-const AREA: usize = 512;
-
-fn check(out: &mut impl Write, list: &[u8]) -> io::Result<()> {
-    tape::text(out, b" ->")?;
-    tape::whether(out, recent::check(list))?;
-    tape::end(out)
+// The list, with room for more, so that its tail is seen to stay.
+#[derive(Drop)]
+struct Area {
+    bytes: [u8; 512],
 }
 
 // Whether a list is well-formed and has a client and an id.
+#[tactic(auto, using(recent::proofs::Laws::formed))]
 fn seen(list: &[u8], client: u32, id: u16) -> bool {
-    if recent::check(list) {
-        recent::seen(list, client, id)
-    } else {
-        false
-    }
+    recent::check(list) && recent::seen(list, client, id)
 }
 
 // Enters a client and an id in a well-formed list.
+#[tactic(auto, using(recent::proofs::Laws::formed))]
 fn enter(list: &mut [u8], client: u32, id: u16) {
     if recent::check(list) {
         recent::enter(list, client, id);
     }
 }
 
-fn print(out: &mut impl Write, area: &[u8]) -> io::Result<()> {
-    if area.len() > 1 {
-        tape::text(out, b" ->")?;
-        tape::then_byte(out, area[0])?;
-        tape::then_byte(out, area[1])?;
-        tape::then(out, tape::digest(area))?;
-        tape::end(out)?;
-    }
-    Ok(())
+fn tell(answer: bool, out: &mut impl Write) -> io::Result<()> {
+    writeln!(out, " -> {}", u8::from(answer))
 }
 
-// Runs a command on the list.
-fn call(out: &mut impl Write, area: &mut [u8], command: &[u8; 32]) -> io::Result<()> {
-    let operation = command[0];
-    let client = tape::number32(command, 12);
-    let id = tape::number16(command, 22);
-    let n = area.len().min(recent::LIST_SIZE);
-    if operation == 3 {
-        tape::text(out, b" ->")?;
-        tape::whether(out, seen(&area[..n], client, id))?;
-        tape::end(out)
-    } else {
-        enter(&mut area[..n], client, id);
-        print(out, area)
-    }
-}
-
-// Runs the next command, and answers whether there may be more.
-fn run(input: &mut impl Read, out: &mut impl Write, area: &mut [u8]) -> io::Result<bool> {
-    let mut command = [0u8; 32];
-    if !tape::next(input, &mut command)? {
-        return Ok(false);
-    }
-    let operation = command[0];
-    if operation == 0 {
-        tape::label(out, &command)?;
-    } else if operation == 1 {
-        tape::put(area, &command);
-    } else if operation == 2 {
-        let n = tape::lent(tape::number32(&command, 12), area);
-        check(out, &area[..n])?;
-    } else {
-        call(out, area, &command)?;
-    }
-    Ok(true)
-}
-
-// Nothing says that the input ends, so the loop counts its turns up to more than are stored.
-fn run_all(input: &mut impl Read, out: &mut impl Write, area: &mut [u8]) -> io::Result<()> {
-    for _ in 0..1000000 {
-        if !run(input, out, area)? {
-            break;
+impl Cases for Area {
+    fn run(&mut self, command: &Command, out: &mut impl Write) -> io::Result<()> {
+        let client = command.number32(12);
+        let id = command.number16(22);
+        match command.operation() {
+            0 => command.label(out)?,
+            1 => command.put(&mut self.bytes),
+            2 => tell(
+                recent::check(tape::lent(&self.bytes, command.number32(12))),
+                out,
+            )?,
+            3 => tell(seen(&self.bytes[..LIST_SIZE], client, id), out)?,
+            _ => {
+                enter(&mut self.bytes[..LIST_SIZE], client, id);
+                let [used, next, ..] = self.bytes;
+                writeln!(out, " -> {used} {next} {}", tape::digest(&self.bytes))?;
+            }
         }
+        Ok(())
     }
-    Ok(())
 }
 
 fn main(rt: HostRuntime) -> io::Result<()> {
-    let mut input = BufReader::new(rt.alloc(), rt.stdin())?;
-    let mut out = BufWriter::new(rt.alloc(), rt.stdout())?;
-    let mut area = [0u8; AREA];
-    run_all(&mut input, &mut out, &mut area)?;
-    out.flush()
+    tape::play(&rt, &mut Area { bytes: [0; 512] })
 }

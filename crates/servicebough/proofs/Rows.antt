@@ -8,19 +8,13 @@ use borrow.Author.Tests.{lt-ltb, le-ltb}
 use Rattle.rows.specs.Rows.{by_first}
 use Rattle.wire.specs.Numbers.{bytes32}
 use Rattle.wire.specs.Parts.{splice}
-use Rattle.clock.specs.declared.Tick.{Tick}
 use Rattle.sending.specs.Answer.{sent_home}
 use Rattle.yard.specs.declared.Walked.{Walked}
 use Rattle.yard.specs.Walk.{Walk, Tells}
 use Rattle.drops.specs.Drop.{drop_room}
-use Rattle.ticks.specs.Ticks.{TickMeets}
 use Rattle.servicebough.specs.Answers.{answer_size, walked_bytes, answer_left, handed, walk_handed}
 use Rattle.wire.proofs.Behind.{four_written}
 use Rattle.format.specs.Sizes.{ipv4}
-
--- what a reading gave, by its definition
-pub of_tick : (k k' : Tick) (out left : List ℕ) (n : ℕ) → k ≡ k' → TickMeets k out n left → TickMeets k' out n left
-of_tick k k' out left n e m = rw (← e) m
 
 module _ (r : Walked) (answer : List ℕ) where
   -- nothing was sent

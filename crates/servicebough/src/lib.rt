@@ -41,8 +41,7 @@ pub fn bough_clock_advance(r: u64, y: u64, reading: u64, out: &mut [u8]) -> u32
 pub fn bough_clock_unix(seconds: u64, nanoseconds: u64) -> u64
     ensures { result ≡ (unix_of seconds nanoseconds).units }
 {
-    let u = unix::unix(seconds, nanoseconds);
-    u.units
+    unix::unix(seconds, nanoseconds).unwrap_or(0)
 }
 
 // The Query Arrival Time of a time issued.

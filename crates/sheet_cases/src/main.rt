@@ -1,144 +1,115 @@
-// Runs the sheet's check and its readers on the cases of standard input, and writes a line for each.
-// Command 0 writes a label, 1 changes the sheet, 2 checks its first bytes, 3 and 4 read an interface
-// and a route, and 5 looks for an address.
+// Runs the sheet's check and its readers on the cases of standard input, and writes a line for each. Command 0 writes a label, 1
+// changes the sheet, 2 checks its first bytes, 3 and 4 read an interface and a route, and 5 looks for an address.
 #![tactic(auto)]
 
-use std::io;
-use std::io::{BufReader, BufWriter, Read, Write};
+use format::IPV4;
+use interface::Interface;
+use route_entry::Route;
+use std::io::Write;
+use std::{fmt, io};
+use tape::{Cases, Command};
 
 // Room for one block more than a sheet may have.
 const AREA: usize = 8704;
 
-fn check(out: &mut impl Write, s: &[u8]) -> io::Result<()> {
-    let l = sheet::check(s);
-    tape::text(out, b" ->")?;
-    tape::whether(out, l.valid)?;
-    if l.valid {
-        tape::then(out, l.interfaces as u64)?;
-        tape::then(out, l.routes as u64)?;
-        tape::whether(out, prohibited(s))?;
-    }
-    tape::end(out)
+#[derive(Drop)]
+struct Sheet {
+    bytes: [u8; AREA],
 }
 
-fn prohibited(s: &[u8]) -> bool {
-    let l = sheet::check(s);
-    l.valid && tables::prohibited(s)
-}
+// An interface and a route, as they are printed: all fields in their order.
+#[derive(Drop)]
+struct ShownInterface(Interface);
 
-fn print_interface(out: &mut impl Write, e: interface::Interface) -> io::Result<()> {
-    tape::text(out, b" ->")?;
-    tape::then(out, e.address as u64)?;
-    tape::then(out, e.length as u64)?;
-    tape::then(out, e.flags as u64)?;
-    tape::then(out, e.threshold as u64)?;
-    tape::then(out, e.zero as u64)?;
-    tape::then(out, e.input)?;
-    tape::then(out, e.output)?;
-    tape::then(out, e.mtu as u64)?;
-    tape::then(out, e.zeros as u64)?;
-    tape::end(out)
-}
+#[derive(Drop)]
+struct ShownRoute(Route);
 
-fn interface(out: &mut impl Write, s: &[u8], i: usize) -> io::Result<()> {
-    let l = sheet::check(s);
-    if i < l.interfaces {
-        let e = interface::interface_at(s, tables::interface_place(format::IPV4, i));
-        print_interface(out, e)?;
-    }
-    Ok(())
-}
-
-fn print_addresses(out: &mut impl Write, e: route_entry::Route) -> io::Result<()> {
-    tape::text(out, b" ->")?;
-    tape::then(out, e.kind as u64)?;
-    tape::then(out, e.length as u64)?;
-    tape::then(out, e.flags as u64)?;
-    tape::then(out, e.zero as u64)?;
-    tape::then(out, e.source as u64)?;
-    tape::then(out, e.group as u64)?;
-    tape::then(out, e.upstream as u64)?;
-    tape::then(out, e.incoming as u64)
-}
-
-fn print_counts(out: &mut impl Write, e: route_entry::Route) -> io::Result<()> {
-    tape::then(out, e.protocol as u64)?;
-    tape::then(out, e.multicast as u64)?;
-    tape::then(out, e.zeros as u64)?;
-    tape::then(out, e.packets)?;
-    tape::then(out, e.forward)?;
-    tape::then(out, e.pruned)?;
-    tape::then(out, e.stopped)?;
-    tape::end(out)
-}
-
-fn route(out: &mut impl Write, s: &[u8], k: usize) -> io::Result<()> {
-    let l = sheet::check(s);
-    if k < l.routes {
-        let e = route_entry::route_at(s, tables::route_place(format::IPV4, l, k));
-        print_addresses(out, e)?;
-        print_counts(out, e)?;
-    }
-    Ok(())
-}
-
-fn holder(out: &mut impl Write, s: &[u8], address: u32) -> io::Result<()> {
-    let l = sheet::check(s);
-    tape::text(out, b" ->")?;
-    match tables::holder(format::IPV4, s, l.interfaces, address) {
-        Some(i) => tape::then(out, i as u64)?,
-        None => tape::then(out, 65535)?,
-    }
-    tape::end(out)
-}
-
-// Runs a command on the sheet that it names.
-fn call(out: &mut impl Write, s: &[u8], command: &[u8; 32]) -> io::Result<()> {
-    let operation = command[0];
-    let a = tape::number32(command, 20);
-    if operation == 2 {
-        check(out, s)
-    } else if operation == 3 {
-        interface(out, s, a as usize)
-    } else if operation == 4 {
-        route(out, s, a as usize)
-    } else {
-        holder(out, s, a)
+impl fmt::Display for ShownInterface {
+    fn fmt<W: fmt::Write>(&self, f: &mut fmt::Formatter<W>) -> fmt::Result {
+        let i = self.0;
+        write!(f, "{} {} {} {}", i.address, i.length, i.flags, i.threshold)?;
+        write!(
+            f,
+            " {} {} {} {} {}",
+            i.zero, i.input, i.output, i.mtu, i.zeros
+        )
     }
 }
 
-// Runs the next command, and answers whether there may be more.
-fn run(input: &mut impl Read, out: &mut impl Write, area: &mut [u8]) -> io::Result<bool> {
-    let mut command = [0u8; 32];
-    if !tape::next(input, &mut command)? {
-        return Ok(false);
+impl fmt::Display for ShownRoute {
+    fn fmt<W: fmt::Write>(&self, f: &mut fmt::Formatter<W>) -> fmt::Result {
+        let r = self.0;
+        write!(f, "{} {} {} {}", r.kind, r.length, r.flags, r.zero)?;
+        write!(f, " {} {} {} {}", r.source, r.group, r.upstream, r.incoming)?;
+        write!(
+            f,
+            " {} {} {} {}",
+            r.protocol, r.multicast, r.zeros, r.packets
+        )?;
+        write!(f, " {} {} {}", r.forward, r.pruned, r.stopped)
     }
-    let operation = command[0];
-    if operation == 0 {
-        tape::label(out, &command)?;
-    } else if operation == 1 {
-        tape::put(area, &command);
-    } else {
-        let n = tape::lent(tape::number32(&command, 12), area);
-        call(out, &area[..n], &command)?;
-    }
-    Ok(true)
 }
 
-// Nothing says that the input ends, so the loop counts its turns up to more than are stored.
-fn run_all(input: &mut impl Read, out: &mut impl Write, area: &mut [u8]) -> io::Result<()> {
-    for _ in 0..1000000 {
-        if !run(input, out, area)? {
-            break;
+#[tactic(auto, using(sheet::proofs::Laws::told_some, tables::proofs::Laws::valid_long))]
+fn check(s: &[u8], out: &mut impl Write) -> io::Result<()> {
+    match sheet::check(s) {
+        Some(l) => {
+            let prohibited = u8::from(tables::prohibited(s));
+            writeln!(out, " -> 1 {} {} {prohibited}", l.interfaces, l.routes)
         }
+        None => writeln!(out, " -> 0"),
     }
-    Ok(())
+}
+
+// Interface `i`, route `k` and the holder of an address, where the sheet is valid and has them.
+fn interface(s: &[u8], i: usize) -> Option<Interface> {
+    let l = sheet::check(s)?;
+    if i < l.interfaces {
+        Some(interface::interface_at(s, tables::interface_place(IPV4, i)))
+    } else {
+        None
+    }
+}
+
+fn route(s: &[u8], k: usize) -> Option<Route> {
+    let l = sheet::check(s)?;
+    if k < l.routes {
+        Some(route_entry::route_at(s, tables::route_place(IPV4, l, k)))
+    } else {
+        None
+    }
+}
+
+#[tactic(auto, using(sheet::proofs::Laws::told_some))]
+fn holder(s: &[u8], address: u32) -> Option<usize> {
+    let l = sheet::check(s)?;
+    tables::holder(IPV4, s, l.interfaces, address)
+}
+
+impl Cases for Sheet {
+    fn run(&mut self, command: &Command, out: &mut impl Write) -> io::Result<()> {
+        let s = tape::lent(&self.bytes, command.number32(12));
+        let number = command.number32(20);
+        match command.operation() {
+            0 => command.label(out)?,
+            1 => command.put(&mut self.bytes),
+            2 => check(s, out)?,
+            3 => {
+                if let Some(i) = interface(s, number as usize) {
+                    writeln!(out, " -> {}", ShownInterface(i))?;
+                }
+            }
+            4 => {
+                if let Some(r) = route(s, number as usize) {
+                    writeln!(out, " -> {}", ShownRoute(r))?;
+                }
+            }
+            _ => writeln!(out, " -> {}", holder(s, number).unwrap_or(65535))?,
+        }
+        Ok(())
+    }
 }
 
 fn main(rt: HostRuntime) -> io::Result<()> {
-    let mut input = BufReader::new(rt.alloc(), rt.stdin())?;
-    let mut out = BufWriter::new(rt.alloc(), rt.stdout())?;
-    let mut area = [0u8; AREA];
-    run_all(&mut input, &mut out, &mut area)?;
-    out.flush()
+    tape::play(&rt, &mut Sheet { bytes: [0; AREA] })
 }

@@ -1,4 +1,2 @@
 -- The promise leaves one answer.
 pub mod Determined
--- The ways out of `hand_over`.
-mod Rows

@@ -5,8 +5,7 @@ use native.Mathlib.Omega.{arith}
 use lib.Dec.{eqb}
 use borrow.Author.Tests.{eqb-true}
 use Rattle.rows.proofs.Laws.{by_rows, first_passes}
-use Rattle.unix.specs.declared.Units.{Units}
-use Rattle.unix.specs.Unix.{clock_unix, units_for, unix_rows, converted, refused_units, unix_of}
+use Rattle.unix.specs.Unix.{Units, clock_unix, units_for, unix_rows, converted, refused_units, unix_of}
 
 -- a UNIX time comes to 0 units exactly where it is refused
 pub unix_zero : (s n : ℕ) → ((unix_of s n).number ≡ clock_unix → (unix_of s n).units ≡ 0) × ((unix_of s n).units ≡ 0 → (unix_of s n).number ≡ clock_unix)

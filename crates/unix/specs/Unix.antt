@@ -1,7 +1,8 @@
 -- UNIX time to units.
-use Rattle.std.specs.Prelude.{ℕ, ◌+◌, ◌*◌, ◌/◌, ◌||◌, List, [], ◌∷◌, leb, ltb}
+use Rattle.std.specs.Prelude.{ℕ, ◌+◌, ◌*◌, ◌/◌, ◌||◌, List, [], ◌∷◌, leb, ltb, Result, Ok, Err}
 use Rattle.rows.specs.Rows.{Row, row, by_first}
-use Rattle.unix.specs.declared.Units.{Units}
+use Rattle.refusal.specs.declared.Refusal.{Refusal}
+use Rattle.refusal.specs.Refusal.{number}
 
 -- refused for the UNIX time
 abbrev pub clock_unix : ℕ
@@ -39,6 +40,11 @@ units_for seconds nanoseconds = (seconds + unix_epoch) * second_units + nanoseco
 abbrev pub unix_rows : ℕ → ℕ → List Row
 unix_rows seconds nanoseconds = row clock_unix (ltb last_second seconds || leb second_nanos nanoseconds) ∷ []
 
+-- a UNIX time in units, or 0 beside the number of why it was refused
+pub record Units : Type 0 where
+  pub number : ℕ
+  pub units : ℕ
+
 -- accepted: the number is 0
 abbrev pub converted : ℕ → Units
 converted units = record { number = 0; units = units }
@@ -46,6 +52,11 @@ converted units = record { number = 0; units = units }
 -- refused by a number: 0 units
 abbrev pub refused_units : ℕ → Units
 refused_units number = record { number = number; units = 0 }
+
+-- what an answer says: the units, or the number of the refusal
+abbrev pub units_of : Result ℕ Refusal → Units
+units_of (Ok units) = converted units
+units_of (Err refusal) = refused_units (number refusal)
 
 -- a UNIX time in units, or refused
 unfoldable pub unix_of : ℕ → ℕ → Units
