@@ -1,9 +1,10 @@
 -- Sums that the test of a sum does not tell apart: how they are joined, and a 64-bit sum with its carry among them.
-use Rattle.std.proofs.Common.{◌≡◌, ℕ, zero, suc, ◌+◌, ◌*◌, ◌/◌, ◌%◌, ◌^◌, ◌<◌, ◌≤◌, Bool, true, false, cond, ◌&&◌, ◌||◌, eqb, ltb, List, sym, refl, ap, ◌∙◌, add-one, arith, ltb-false, ltb-true, lt-ltb, eq-eqb, eqb-true}
+use Rattle.std.proofs.Common.{◌≡◌, ℕ, zero, suc, ◌+◌, ◌*◌, ◌/◌, ◌%◌, ◌<◌, true, false, ◌&&◌, eqb, ltb, List, sym, refl, ◌∙◌, add-one, arith, ltb-true, lt-ltb, eq-eqb, eqb-true}
 use native.Mathlib.Numerals.{add-two}
 use Rattle.rows.proofs.Laws.{same_flag, both_true, both_of}
 use Rattle.block.specs.Sum.{right_sum}
-use Rattle.memory.specs.Inside.{le32}
+use Rattle.std.specs.Int.{from_bool}
+use Rattle.memory.specs.Inside.{le, le32, le64}
 use Rattle.block.specs.Inside.{word_size, past_word, past_long, words, Alike, SumsTo}
 use Rattle.block.specs.declared.LongSum.{LongSum}
 
@@ -53,34 +54,6 @@ pub alike_test : (a b : ℕ) → Alike a b → (ltb 0 a && eqb (a % right_sum) 0
 alike_test a b f =
     same_flag (ltb 0 a && eqb (a % right_sum) 0) (ltb 0 b && eqb (b % right_sum) 0) (passes a b f) (passes b a (alike_back a b f))
 
--- an addition that wraps has carried where its result is less than what was added
-wrapped : (x w half : ℕ) → x < past_long → w < past_long → half ≡ (x + w) % past_long → half + past_long * cond (ltb half w) 1 0 ≡ x + w
-wrapped x w half h k e = by_flag (ltb half w) refl where
-  by_flag : (f : Bool) → ltb half w ≡ f → half + past_long * cond f 1 0 ≡ x + w
-  by_flag true p = let l : half < w = ltb-true half w p in omega arith
-  by_flag false p = let l : w ≤ half = ltb-false half w p in omega arith
-
--- of two additions in a row, the second of a carry, one at most carries
-one_carry : (p q : Bool) (sum half last c : ℕ) → c ≤ 1 → sum + 1 < past_long + past_long → half + past_long * cond p 1 0 ≡ sum → last + past_long * cond q 1 0 ≡ c + half
-    → last + past_long * cond (p || q) 1 0 ≡ sum + c
-one_carry true true sum half last c l m d e = absurd (omega arith)
-one_carry true false sum half last c l m d e = omega arith
-one_carry false q sum half last c l m d e = omega arith
-
-pub added : (x c w half last carry : ℕ) → x < past_long → w < past_long → c ≤ 1 → half ≡ (x + w) % 2 ^ 64 → last ≡ (half + c) % 2 ^ 64
-    → carry ≡ cond (ltb half w || ltb last half) 1 0
-    → last + past_long * carry ≡ x + c + w
-added x c w half last carry h k l d e f =
-    let swap : half + c ≡ c + half = omega arith in
-    let first : half + past_long * cond (ltb half w) 1 0 ≡ x + w = wrapped x w half h k d in
-    let second : last + past_long * cond (ltb last half) 1 0 ≡ c + half =
-    wrapped c half last (omega arith) (omega arith) (e ∙ ap (λ (n : ℕ). n % past_long) swap)
-    in
-    let both : last + past_long * cond (ltb half w || ltb last half) 1 0 ≡ x + w + c =
-    one_carry (ltb half w) (ltb last half) (x + w) half last c l (omega arith) first second
-    in
-    ap (λ (n : ℕ). last + past_long * n) f ∙ both ∙ omega arith
-
 -- what is carried out of 64 bits counts once, but for a multiple of 0xFFFF
 carry_once : (last carry sum : ℕ) → last + past_long * carry ≡ sum → Alike (last + carry) sum
 carry_once last carry sum e = alike_less (last + carry) sum (281479271743489 * carry) (omega arith) (λ h. omega arith)
@@ -97,26 +70,31 @@ words_two : (b : List ℕ) (i : ℕ) → words b (i + 2) ≡ words b i + (le32 b
 unfolding words
 words_two b i = rw (add-two, add-one) (omega arith)
 
-pub two_more : (b : List ℕ) (i low high : ℕ) (s r : LongSum) → SumsTo b i s → low ≡ le32 b (word_size * i) → high ≡ le32 b (word_size * (i + 1))
-    → r.words + past_long * r.carry ≡ s.words + s.carry + (low + high * past_word) → r.carry ≤ 1
+-- a long word is two words
+long_word : (b : List ℕ) (i : ℕ) → le64 b (word_size * i) ≡ le32 b (word_size * i) + le32 b (word_size * (i + 1)) * past_word
+unfolding le
+long_word b i = let next : word_size * i + 4 ≡ word_size * (i + 1) = omega arith in rw next refl
+
+pub two_more : (b : List ℕ) (i long : ℕ) (s r : LongSum) → SumsTo b i s → long ≡ le64 b (word_size * i)
+    → r.words + past_long * from_bool r.carry ≡ s.words + from_bool s.carry + long
     → SumsTo b (i + 2) r
-two_more b i low high s r f d e is one =
-    let sum : ℕ = s.words + s.carry in
-    let long : ℕ = low + high * past_word in
-    let all : words b i + (low + high) ≡ words b (i + 2) = rw (d, e) (sym (words_two b i)) in
+two_more b i long s r f d is =
+    let sum : ℕ = s.words + from_bool s.carry in
+    let low : ℕ = le32 b (word_size * i) in
+    let high : ℕ = le32 b (word_size * (i + 1)) in
+    let halves : long ≡ low + high * past_word = d ∙ long_word b i in
     record {
-      carry = one;
       alike =
-          alike_on (r.words + r.carry) (sum + long) (words b (i + 2)) (carry_once r.words r.carry (sum + long) is)
+          alike_on (r.words + from_bool r.carry) (sum + long) (words b (i + 2)) (carry_once r.words (from_bool r.carry) (sum + long) is)
           (alike_on (sum + long) (words b i + (low + high)) (words b (i + 2))
-          (alike_both sum (words b i) long (low + high) f.alike (alike_back (low + high) long (high_once low high)))
-          (alike_same (words b i + (low + high)) (words b (i + 2)) all));
+          (alike_both sum (words b i) long (low + high) f.alike (rw halves (alike_back (low + high) (low + high * past_word) (high_once low high))))
+          (alike_same (words b i + (low + high)) (words b (i + 2)) (sym (words_two b i))));
     }
 
 -- no word yet
-pub none_summed : (b : List ℕ) (s : LongSum) → s.words ≡ 0 → s.carry ≡ 0 → SumsTo b 0 s
+pub none_summed : (b : List ℕ) → SumsTo b 0 (record { words = 0; carry = false })
 unfolding words
-none_summed b s e f = record { carry = omega arith; alike = alike_same (s.words + s.carry) 0 (omega arith) }
+none_summed b = record { alike = alike_same 0 0 refl }
 
 pub summed_to : (b : List ℕ) (m n : ℕ) (s : LongSum) → SumsTo b m s → m ≡ n → SumsTo b n s
 summed_to b m n s f e = rw (← e) f

@@ -1,6 +1,7 @@
 -- Inside: what only the contracts of this crate's own functions cite. No entry's promise rests on it, and a reader of the definitions may pass it over.
 -- Here: a block's 32-bit words in memory's order, by whose plain sum, or one like it, the code finds the sum of RFC 1071.
-use Rattle.std.specs.Prelude.{◌≡◌, ℕ, zero, suc, ◌+◌, ◌-◌, ◌*◌, ◌/◌, ◌<◌, ◌≤◌, Bool, List}
+use Rattle.std.specs.Prelude.{◌≡◌, ℕ, zero, suc, ◌+◌, ◌-◌, ◌*◌, ◌/◌, ◌<◌, Bool, List}
+use Rattle.std.specs.Int.{from_bool}
 use Rattle.memory.specs.Inside.{le32}
 use Rattle.wire.specs.Parts.{part, all_zero}
 use Rattle.block.specs.Sum.{right_sum}
@@ -46,5 +47,4 @@ pub record Alike (sum plain : ℕ) : Type 0 where
 
 -- a long sum of the first n words: with its carry it is like their plain sum
 pub record SumsTo (b : List ℕ) (n : ℕ) (s : LongSum) : Type 0 where
-  pub carry : s.carry ≤ 1
-  pub alike : Alike (s.words + s.carry) (words b n)
+  pub alike : Alike (s.words + from_bool s.carry) (words b n)

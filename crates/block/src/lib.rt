@@ -1,7 +1,8 @@
 // The frame of a block of 512 bytes: kind, entries in use, number, unused bytes, sum.
 #![tactic(auto)]
 
-ghost use Rattle.std.specs.Prelude.{◌≡◌, ◌+◌, ◌*◌, ◌/◌, ◌%◌, ◌<◌, ◌≤◌, ◌&&◌, length, if◌then◌else◌, ◌==◌, nat_lt};
+ghost use Rattle.std.specs.Prelude.{◌≡◌, ◌+◌, ◌*◌, ◌/◌, ◌%◌, ◌<◌, ◌≤◌, ◌&&◌, length, ◌==◌, nat_lt};
+ghost use Rattle.std.specs.Int.{from_bool};
 ghost use Rattle.block.specs.Sum.{right_sum};
 ghost use Rattle.block.specs.Block.{block_size, entries_room, place_in_block, filled_ok, frame_ok};
 ghost use Rattle.block.specs.Inside.{word_size, past_long, block_words, switches_word, words, zero_from, Alike, SumsTo};
@@ -26,59 +27,43 @@ const WORD_SIZE: usize = 4;
 const SWITCHES_WORD: usize = SWITCHES_AT / WORD_SIZE;
 
 // One more than the largest word.
-const PAST_WORD: u64 = 4294967296;
+const PAST_WORD: u64 = 1 << 32;
 
 // What the words give when they are summed with end-around carry.
-const RIGHT_SUM: u64 = 65535;
-
-// A byte as a wider number.
-fn wide(x: u8) -> u32
-    ensures { (result ≡ x) × (result < 256) }
-{
-    x as u32
-}
+const RIGHT_SUM: u64 = 0xFFFF;
 
 // A sum of 64-bit words, and the carry out of its last addition.
 #[derive(Drop)]
 struct LongSum {
     words: u64,
-    carry: u64,
+    carry: bool,
 }
 
-fn one_if(b: bool) -> u64
-    ensures { (result ≡ (if b then 1 else 0)) × (result ≤ 1) }
-{
-    if b {
-        return 1;
-    }
-    0
-}
-
-// A 64-bit word more, and the carry out of the last addition: in this form the compiler takes it for one addition with carry.
+// A 64-bit word more, and the carry out of the last addition: in this form the compiler takes it for one addition with carry, while
+// `carrying_add` comes to six instructions.
 fn add(s: LongSum, w: u64) -> LongSum
-    requires { s.carry ≤ 1 }
-    ensures { (result.words + past_long * result.carry ≡ s.words + s.carry + w) × (result.carry ≤ 1) }
+    ensures { result.words + past_long * from_bool result.carry ≡ s.words + from_bool s.carry + w }
 {
-    let half = std::num::wrapping_add_u64(s.words, w);
-    let words = std::num::wrapping_add_u64(half, s.carry);
+    let half = s.words.wrapping_add(w);
+    let words = half.wrapping_add(u64::from(s.carry));
     LongSum {
         words,
-        carry: one_if((half < w) | (words < half)),
+        carry: (half < w) | (words < half),
     }
 }
 
 // Words `i` and `i + 1` more, as one 64-bit word.
+#[tactic(auto, using(crate::proofs::Alike::two_more))]
 fn add_two(s: LongSum, b: &[u8], i: usize) -> LongSum
     requires i_bound { (i + 2 ≤ block_words) × (length b.now ≡ block_size) }
     requires sums_to { SumsTo b.now i s }
     ensures { SumsTo b.now (i + 2) result }
 {
-    let low = memory::le32(b, WORD_SIZE * i) as u64;
-    let high = memory::le32(b, WORD_SIZE * (i + 1)) as u64;
-    add(s, low + high * PAST_WORD)
+    add(s, memory::le64(b, WORD_SIZE * i))
 }
 
 // Words `i` to `i + 15` more. Without a loop no carry has to be kept aside.
+#[tactic(auto, using(crate::proofs::Alike::summed_to))]
 fn add_sixteen(s: LongSum, b: &[u8], i: usize) -> LongSum
     requires i_bound { (i + 16 ≤ block_words) × (length b.now ≡ block_size) }
     requires sums_to { SumsTo b.now i s }
@@ -91,19 +76,23 @@ fn add_sixteen(s: LongSum, b: &[u8], i: usize) -> LongSum
 }
 
 // A long sum in fewer bits, with room for all of it.
+#[tactic(auto, using(crate::proofs::Alike::folded_long))]
 fn folded(s: LongSum) -> u64
-    requires { s.carry ≤ 1 }
-    ensures { Alike result (s.words + s.carry) }
+    ensures { Alike result (s.words + from_bool s.carry) }
 {
-    s.words / PAST_WORD + s.words % PAST_WORD + s.carry
+    s.words / PAST_WORD + s.words % PAST_WORD + u64::from(s.carry)
 }
 
 // A sum of all words that the test of the sum does not tell from the plain one.
+#[tactic(auto, using(crate::proofs::Alike::alike_on, crate::proofs::Alike::none_summed))]
 fn sum_block(b: &[u8]) -> u64
     requires { length b.now ≡ block_size }
     ensures { Alike result (words b.now block_words) }
 {
-    let none = LongSum { words: 0, carry: 0 };
+    let none = LongSum {
+        words: 0,
+        carry: false,
+    };
     let s32 = add_sixteen(add_sixteen(none, b, 0), b, 16);
     let s64 = add_sixteen(add_sixteen(s32, b, 32), b, 48);
     let s96 = add_sixteen(add_sixteen(s64, b, 64), b, 80);
@@ -118,15 +107,14 @@ fn right_sum(sum: u64) -> bool
 }
 
 // Whether the words from `from` up to the switches are zero.
+#[tactic(auto, using(crate::proofs::Unused::zeros_more, crate::proofs::Unused::zeros_all))]
 fn zero_from(b: &[u8], from: usize) -> bool
     requires { (from ≤ switches_word) × (length b.now ≡ block_size) }
     ensures { result ≡ zero_from b.now from }
 {
-    let mut some: u32 = 0;
-    let mut i = from;
-    while i < SWITCHES_WORD {
-        some = some | memory::le32(b, WORD_SIZE * i);
-        i += 1;
+    let mut some = 0;
+    for i in from..SWITCHES_WORD {
+        some |= memory::le32(b, WORD_SIZE * i);
     }
     some == 0
 }
@@ -149,12 +137,13 @@ fn filled_ok(each: usize, partly: bool, used: usize) -> bool
 // Whether a block keeps its frame. What one look decides comes first. Where the entries in use reach the switches no word is
 // unused; else those that are must be zero. The sum is asked for in two places: so the compiler leaves it a function of its own,
 // and puts the rest into its callers, where the size is known.
+#[tactic(auto, using(crate::proofs::Frames::wrong_head, crate::proofs::Frames::in_use_fit, crate::proofs::Frames::wrong_rest))]
 pub fn frame_ok(b: &[u8], kind: u8, size: usize, number: u16, partly: bool) -> bool
     requires b_len { length b.now ≡ block_size }
     requires size_nonzero { (0 < size) × (size % word_size ≡ 0) }
     ensures { result ≡ frame_ok kind size number partly b.now }
 {
-    let used = wide(b[1]) as usize;
+    let used = usize::from(b[1]);
     let full = filled_ok(ENTRIES_ROOM / size, partly, used);
     if (b[0] != kind) | (wire::be16(b, 2) != number) | !full {
         return false;
