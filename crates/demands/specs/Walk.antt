@@ -17,9 +17,8 @@ use Rattle.drops.specs.Arrival.{arrival}
 use Rattle.drops.specs.Drop.{near_ttl}
 use Rattle.sending.specs.Answer.{sent_on, sent_home}
 use Rattle.engine.specs.Step.{Outcome}
-use Rattle.yard.specs.declared.Walked.{Walked}
 use Rattle.yard.specs.Yard.{sheet_at}
-use Rattle.yard.specs.Walk.{to_group, nobody_there, Visit, visit, walk_rows}
+use Rattle.yard.specs.Walk.{Walked, to_group, nobody_there, Visit, visit, walk_rows}
 use Rattle.yard.specs.Holders.{LowestHolder, NobodyHolds}
 use Rattle.demands.specs.Engine.{Engine, Call, run, rows, room, BlockOf}
 use Rattle.format.specs.Sizes.{ipv4, output_size}

@@ -14,9 +14,8 @@ use Rattle.rows.proofs.Laws.{decided}
 use Rattle.wire.specs.Parts.{splice}
 use Rattle.wire.specs.Numbers.{byte_at, be16, be32}
 use Rattle.drops.specs.Arrival.{arrival}
-use Rattle.yard.specs.declared.Walked.{Walked}
 use Rattle.yard.specs.Yard.{most_routers}
-use Rattle.yard.specs.Walk.{visit, Tells, WalkTells}
+use Rattle.yard.specs.Walk.{Walked, visit, Tells, WalkTells}
 use Rattle.input.specs.Input.{start_size, head_size, head_of, visit_of, times_of, walk_in, walk_for}
 use Rattle.format.specs.Sizes.{ipv4, output_size}
 
@@ -55,8 +54,19 @@ pub head_there : (input head : List ℕ) (n : ℕ) → n ≡ min head_size (leng
 unfolding head_of
 head_there input head n e w = w ∙ rw (e, take_there head_size input)
 
-pub head_fits : (input : List ℕ) (n : ℕ) → n ≤ head_size → n ≤ length input → 0 + length (take n input) ≤ head_size
-head_fits input n h k = omega (arith, length-take-le n input k)
+-- no more is taken than there is, and no more than 36
+pub head_within : (input : List ℕ) (n : ℕ) → n ≡ min head_size (length input) → (n ≤ head_size) × (n ≤ length input)
+head_within input n e =
+    ⊎_elim
+    (λ f. let all : n ≡ head_size = e ∙ min-eq_left (leb-true head_size (length input) f) in (omega arith, omega (arith, leb-true head_size (length input) f)))
+    (λ f.
+    let short : length input < head_size = leb-false head_size (length input) f in
+    let all : n ≡ length input = e ∙ min-eq_right {n = length input} {m = head_size} (omega arith) in
+    (omega arith, omega arith))
+    (decided (leb head_size (length input)))
+
+pub head_fits : (input : List ℕ) (n : ℕ) → n ≡ min head_size (length input) → 0 + length (take n input) ≤ head_size
+head_fits input n e = omega (arith, length-take-le n input (head_within input n e).1, (head_within input n e).0)
 
 -- a slice to its end is all that is left
 to_end : (s : List ℕ) (n : ℕ) → take (length s - n) (drop n s) ≡ drop n s

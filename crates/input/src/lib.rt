@@ -1,13 +1,15 @@
 // What the program `walk` reads, and the walk that it asks for.
 #![tactic(auto)]
 
-ghost use Rattle.std.specs.Prelude.{◌≡◌, ◌+◌, ◌≤◌, ◌<◌, min, length, replicate};
+ghost use Rattle.std.specs.Prelude.{◌≡◌, ◌+◌, ◌≤◌, ◌<◌, length, replicate, IfOk};
 ghost use Rattle.yard.specs.Yard.{most_routers};
-ghost use Rattle.yard.specs.Walk.{Tells};
+ghost use Rattle.yard.specs.Walk.{walked_by, Tells};
 ghost use Rattle.input.specs.Input.{input_size, head_size, head_of, times_of, walk_in, walk_for};
 ghost use Rattle.format.specs.Sizes.{ipv4, output_size};
 
-use yard::Walked;
+use drops::Arrival;
+use refusal::Refusal;
+use yard::{Visit, Walked};
 
 // The bytes that say where the Query arrives: router 2, interface 2, destination 4, TTL 1, and seven that are ignored.
 const START_SIZE: usize = 16;
@@ -17,20 +19,6 @@ const HEAD_SIZE: usize = START_SIZE + format::HEADER_SIZE;
 
 // No more is to be read: one byte more than the longest yard, so that a longer one is seen.
 const INPUT_SIZE: usize = HEAD_SIZE + yard::MOST_ROUTERS * yard::SHEET_SIZE + 1;
-
-// A byte as a wider number.
-fn wide(b: u8) -> u32
-    ensures { result ≡ b }
-{
-    b as u32
-}
-
-// The smaller of two numbers.
-fn least(a: usize, b: usize) -> usize
-    ensures { (result ≡ min a b) × (result ≤ a) × (result ≤ b) }
-{
-    if a < b { a } else { b }
-}
 
 // Zeros, for an input to be read into.
 pub fn blank() -> [u8; INPUT_SIZE]
@@ -43,7 +31,7 @@ pub fn blank() -> [u8; INPUT_SIZE]
 fn head_of(input: &[u8]) -> [u8; HEAD_SIZE]
     ensures { result ≡ head_of input.now }
 {
-    let n = least(HEAD_SIZE, input.len());
+    let n = HEAD_SIZE.min(input.len());
     let mut head = [0u8; HEAD_SIZE];
     wire::copy_to(&mut head, 0, &input[..n]);
     head
@@ -54,42 +42,37 @@ fn times_of() -> [u32; yard::MOST_ROUTERS]
     ensures { result ≡ times_of most_routers }
 {
     let mut times = [0u32; yard::MOST_ROUTERS];
-    let mut i: usize = 0;
-    while i < yard::MOST_ROUTERS {
+    for i in 0..yard::MOST_ROUTERS {
         times[i] = 65536 * (i as u32);
-        i += 1;
     }
     times
 }
 
 // Walks through a yard from where the first bytes say.
-fn walk_from(head: &[u8], yard: &[u8], output: &mut [u8]) -> Walked
+fn walk_from(head: &[u8], yard: &[u8], output: &mut [u8]) -> Result<Walked, Refusal>
     requires { (length head.now ≡ head_size) × (length output.old ≡ output_size) }
-    ensures { Tells ipv4 (walk_in head.now yard.now) output.old result output.new }
+    ensures told { Tells ipv4 (walk_in head.now yard.now) output.old (walked_by result) output.new }
+    ensures entered { IfOk result (λ w. 0 < w.steps) }
 {
-    let times = times_of();
-    let router = wire::be16(head, 0) as u32;
-    let interface = wire::be16(head, 2) as u32;
-    let destination = wire::be32(head, 4);
-    let ttl = wide(head[8]);
-    yard::walk(
-        yard,
-        &times,
-        &head[START_SIZE..],
-        router,
-        interface,
-        destination,
-        ttl,
-        output,
-    )
+    let start = Visit {
+        router: wire::be16(head, 0) as usize,
+        arrival: Arrival {
+            message: &head[START_SIZE..],
+            destination: wire::be32(head, 4),
+            receiving: wire::be16(head, 2) as u32,
+            ttl: u32::from(head[8]),
+        },
+    };
+    yard::walk(yard, &times_of(), start, output)
 }
 
 // Walks as the input asks.
-pub fn walk(input: &[u8], output: &mut [u8]) -> Walked
+pub fn walk(input: &[u8], output: &mut [u8]) -> Result<Walked, Refusal>
     requires { length output.old ≡ output_size }
-    ensures { Tells ipv4 (walk_for input.now) output.old result output.new }
+    ensures told { Tells ipv4 (walk_for input.now) output.old (walked_by result) output.new }
+    ensures entered { IfOk result (λ w. 0 < w.steps) }
 {
     let head = head_of(input);
-    let n = least(HEAD_SIZE, input.len());
+    let n = HEAD_SIZE.min(input.len());
     walk_from(&head, &input[n..], output)
 }

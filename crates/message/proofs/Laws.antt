@@ -7,7 +7,8 @@ pub use Rattle.message.proofs.Accept.{query_has_room, accepted_request, no_room_
 pub use Rattle.message.proofs.Append.{request_formed}
 -- where its type 4 blocks stand, also found one by one, from each block to the next
 pub use Rattle.message.proofs.Standards.{standards_fit, standards_few, last_high, all_standards, standards_more, standards_same, standards_over, first_low, first_inside, first_same, first_parts}
-pub use Rattle.message.proofs.Turns.{there, size_inside, size_standard, moves_on, blocks_over, blocks_on}
+pub use Rattle.message.proofs.Once.{kind_told}
+pub use Rattle.message.proofs.Turns.{block_some, block_inside, block_moves, there, size_inside, size_standard, moves_on, blocks_over, blocks_on}
 pub use Rattle.message.proofs.Cut.{Begun, begun, by_blocks, no_blocks_lem, block_first}
 pub use Rattle.message.proofs.Heads.{none_short}
 -- what a router sends: a type 4 block appended and a type written

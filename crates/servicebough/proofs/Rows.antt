@@ -9,8 +9,12 @@ use Rattle.rows.specs.Rows.{by_first}
 use Rattle.wire.specs.Numbers.{bytes32}
 use Rattle.wire.specs.Parts.{splice}
 use Rattle.sending.specs.Answer.{sent_home}
-use Rattle.yard.specs.declared.Walked.{Walked}
-use Rattle.yard.specs.Walk.{Walk, Tells}
+use Rattle.yard.specs.declared.End.{End}
+use Rattle.yard.specs.declared.End.TheVariants.{Dropped, SentHome, ToGroup, NobodyThere}
+use Rattle.yard.specs.declared.Walked as code
+use Rattle.refusal.specs.declared.Refusal.{Refusal}
+use Rattle.refusal.proofs.Laws.{number_low}
+use Rattle.yard.specs.Walk.{Walk, Walked, end_number, walked, Tells}
 use Rattle.drops.specs.Drop.{drop_room}
 use Rattle.servicebough.specs.Answers.{answer_size, walked_bytes, answer_left, handed, walk_handed}
 use Rattle.wire.proofs.Behind.{four_written}

@@ -5,8 +5,7 @@ use Rattle.wire.specs.Numbers.{bytes32}
 use Rattle.wire.specs.Parts.{splice}
 use Rattle.drops.specs.Drop.{drop_room}
 use Rattle.sending.specs.Answer.{sent_home}
-use Rattle.yard.specs.declared.Walked.{Walked}
-use Rattle.yard.specs.Walk.{Walk, walked_of}
+use Rattle.yard.specs.Walk.{Walked, Walk, walked_of}
 use Rattle.format.specs.Sizes.{ipv4}
 
 -- the bytes that are lent for the answer

@@ -6,7 +6,7 @@ ghost use Rattle.clock.specs.Clock.{clock_of, start_of, advance_of, arrival_of};
 ghost use Rattle.unix.specs.Unix.{unix_of};
 ghost use Rattle.drops.specs.Arrival.{arrival};
 ghost use Rattle.engine.specs.Step.{outcome, StepMeets};
-ghost use Rattle.yard.specs.Walk.{visit, walk_of};
+ghost use Rattle.yard.specs.Walk.{visit, walked, walk_of};
 ghost use Rattle.rows.specs.Rows.{first_of};
 ghost use Rattle.reply.specs.Check.{reply_rows};
 ghost use Rattle.reply.specs.Copy.{copied, copied_next};
@@ -17,7 +17,9 @@ ghost use Rattle.servicebough.specs.Answers.{answer_size, answer_left, handed, w
 ghost use Rattle.format.specs.Sizes.{ipv4};
 
 use clock::Clock;
-use yard::Walked;
+use drops::Arrival;
+use refusal::Refusal;
+use yard::{End, Visit, Walked};
 
 // Bytes lent for the answer of a walk.
 const ANSWER_SIZE: usize = 16;
@@ -66,28 +68,27 @@ pub fn bough_engine_step(
     ensures { StepMeets ipv4 (arrival message.now destination receiving ttl) time sheet.now recent.old output.old note.old
         (outcome result recent.new output.new note.new) }
 {
-    engine::step(
+    let arrival = Arrival {
         message,
         destination,
         receiving,
         ttl,
-        time,
-        sheet,
-        recent,
-        output,
-        note,
-    )
+    };
+    match engine::step(arrival, time, sheet, recent, output, note) {
+        Ok(answer) => u32::from(answer),
+        Err(refusal) => u32::from(refusal),
+    }
 }
 
 // Writes what a walk answered into 16 bytes, unless it was refused or dropped.
 fn write_answer(w: Walked, answer: &mut [u8])
     requires { answer_size ≤ length answer.old }
-    ensures { answer.new ≡ answer_left w answer.old }
+    ensures { answer.new ≡ answer_left (walked w) answer.old }
 {
-    if w.end < sending::SENT_HOME {
+    if matches!(w.end, End::Dropped(_)) {
         return;
     }
-    wire::put32(answer, 0, w.end);
+    wire::put32(answer, 0, u32::from(w.end));
     wire::put32(answer, 4, w.steps);
     wire::put32(answer, 8, w.blocks);
     wire::put32(answer, 12, w.length);
@@ -110,20 +111,24 @@ pub fn bough_walk(
         output.old answer.old }
 {
     if answer.len() < ANSWER_SIZE {
-        return drops::DROP_ROOM;
+        return u32::from(Refusal::Room);
     }
-    let w = yard::walk(
-        yard,
-        times,
-        message,
-        start,
-        receiving,
-        destination,
-        ttl,
-        output,
-    );
-    write_answer(w, answer);
-    w.end
+    let visit = Visit {
+        router: start as usize,
+        arrival: Arrival {
+            message,
+            destination,
+            receiving,
+            ttl,
+        },
+    };
+    match yard::walk(yard, times, visit, output) {
+        Ok(w) => {
+            write_answer(w, answer);
+            u32::from(w.end)
+        }
+        Err(refusal) => u32::from(refusal),
+    }
 }
 
 // A Reply checked.

@@ -1,19 +1,23 @@
 -- The lines of a message's type 4 blocks, written one by one while its blocks are passed.
 use Prim.Native.Nat.{ℕ, suc, ◌+◌, ◌*◌, ◌-◌, ◌≤◌, ◌<◌}
-use mathlib.Core.Path.{◌≡◌, refl, sym, ◌∙◌}
+use mathlib.Core.Path.{◌≡◌, refl, sym, ap, ◌∙◌}
 use mathlib.Core.Bool.{Bool, true, false, cond}
 use mathlib.Core.List.{List, [], ◌++◌, map, append-nil, append_assoc}
-use mathlib.Core.Logic.{⊎_elim}
 use native.Mathlib.Omega.{arith}
 use native.Mathlib.Numerals.{add-one}
 use lib.Dec.{eqb}
 use lib.ListN.{length, take, drop, length-drop}
 use lib.Seq.{length-take-le}
-use Rattle.rows.proofs.Laws.{decided}
 use Rattle.wire.specs.Parts.{part}
 use Rattle.header.specs.Format.{header_size, most, standard, standard_size}
 use Rattle.message.specs.Blocks.{standards, standard_blocks}
-use Rattle.message.specs.Inside.{Head, block_at, standards_from}
+use Rattle.message.specs.Inside.{Head, head_of, block_at, standards_from}
+use Rattle.message.specs.declared.BlockHead.{BlockHead}
+use denote.Enum.Bare.{sameb}
+use Rattle.header.specs.contracts.BlockKind.{the_type}
+use Rattle.header.specs.declared.BlockKind.TheVariants.{Standard}
+use Rattle.message.proofs.Laws.{block_some, kind_told}
+use Rattle.std.specs.Prelude.{Option, Some, None}
 use Rattle.message.proofs.Laws.{all_standards, none_short, standards_more, standards_same, standards_over, size_inside, size_standard}
 use Rattle.text.specs.Text.{line_of, lines_of, most_line, most_lines}
 use Rattle.text.specs.Inside.{Written}
@@ -54,18 +58,27 @@ module _ (m text : List ℕ) (from : ℕ) where
   none_yet h =
       record { done = []; written = nothing 0 from text; left = rw (all_standards ipv4_sound m); inside = h; passed = omega arith }
 
-  module _
-      (text' : List ℕ) (at count next : ℕ) (so_far : SoFar m text from text' at count next) (short : length m ≤ most)
-      (block : Head) (b : block ≡ block_at ipv4 m at)
-    where
-      -- behind the last block all are
-      pub all_lines : block.size ≡ 0 → Written (lines_of 1 (standard_blocks ipv4 m)) most_lines from text text' next
-      unfolding lines_of
-      all_lines z =
-          let whole : lines_of 1 (standard_blocks ipv4 m) ≡ so_far.done = so_far.left ∙ rw (standards_over ipv4_sound m at block b z, append-nil) in
-          rw whole (no_more (omega (arith, so_far.inside, so_far.passed)) so_far.written)
+  module _ (text' : List ℕ) (at count next : ℕ) (so_far : SoFar m text from text' at count next) (short : length m ≤ most) where
+    -- behind the last block all are
+    pub all_lines : (found : Option BlockHead) → head_of found ≡ block_at ipv4 m at → found ≡ None
+        → Written (lines_of 1 (standard_blocks ipv4 m)) most_lines from text text' next
+    unfolding lines_of
+    all_lines found b none =
+        let over = standards_over ipv4_sound m at (head_of found) b (ap (λ (o : Option BlockHead). (head_of o).size) none) in
+        let whole : lines_of 1 (standard_blocks ipv4 m) ≡ so_far.done = so_far.left ∙ rw (over, append-nil) in
+        rw whole (no_more (omega (arith, so_far.inside, so_far.passed)) so_far.written)
 
-      module _ (some : block.size ≡ 0 → ⊥) (one : Bool) (o : one ≡ eqb block.kind standard) where
+    module _ (it : BlockHead) (b : head_of (Some it) ≡ block_at ipv4 m at) where
+      abbrev block : Head
+      block = head_of (Some it)
+
+      some : block.size ≡ 0 → ⊥
+      some z = omega (arith, z, block_some ipv4_sound m at it b)
+
+      module _ (one : Bool) (told : one ≡ sameb the_type it.kind Standard) where
+        o : one ≡ eqb block.kind standard
+        o = told ∙ kind_told it.kind
+
         abbrev bytes : List ℕ
         bytes = take (at + block.size - at) (drop at m)
 
@@ -115,11 +128,11 @@ module _ (m text : List ℕ) (from : ℕ) where
                 passed = omega (arith, so_far.passed);
               }
 
-          -- one block on
-          pub one_passed : Written (cond one (line_of (count + 1) bytes) []) (cond one most_line 0) next text' text'' next' → count' ≡ cond one (count + 1) count
-              → SoFar m text from text'' (at + block.size) count' next'
-          one_passed w c =
-              ⊎_elim
-              (λ e. with_line e (rw (e, add-one) at w) (rw (e, add-one) at c))
-              (λ e. without_line e (rw e at w) (rw e at c))
-              (decided one)
+        -- one block on: with a line, or without one
+        module _ (text'' : List ℕ) (next' : ℕ) (room : from + most_lines ≤ length text)
+            (w : Written (cond one (line_of (count + 1) bytes) []) (cond one most_line 0) next text' text'' next') where
+          pub passed_standard : one ≡ true → SoFar m text from text'' (at + block.size) (count + 1) next'
+          passed_standard e = with_line text'' (count + 1) next' room e (rw (e, add-one) at w) (add-one count)
+
+          pub passed_other : one ≡ false → SoFar m text from text'' (at + block.size) count next'
+          passed_other e = without_line text'' count next' room e (rw e at w) refl

@@ -10,8 +10,7 @@ use Rattle.wire.specs.Parts.{splice}
 use Rattle.wire.proofs.Laws.{splice_front}
 use Rattle.header.specs.Format.{most}
 use Rattle.message.specs.Blocks.{standard_blocks}
-use Rattle.yard.specs.declared.Walked.{Walked}
-use Rattle.yard.specs.Walk.{Walk, Tells}
+use Rattle.yard.specs.Walk.{Walked, Walk, Tells}
 use Rattle.input.specs.Input.{walk_for}
 use Rattle.text.specs.Text.{lines_of, first_line, walk_text, text_of, most_first, most_lines, text_size}
 use Rattle.text.specs.Inside.{Written}

@@ -1,4 +1,5 @@
 -- Bytes written into a text one behind the other: two runs of them are one.
+use Rattle.yard.specs.Walk.{Walked}
 use Prim.Native.Nat.{ℕ, zero, suc, ◌+◌, ◌-◌, ◌/◌, ◌%◌, ◌≤◌, ◌<◌}
 use mathlib.Core.Path.{◌≡◌, refl, sym, ◌∙◌}
 use mathlib.Core.List.{List, [], ◌∷◌, ◌++◌, append-nil}
@@ -8,7 +9,6 @@ use borrow.Author.Tests.{lt-ltb, le-ltb, ne_eqb}
 use lib.ListN.{length, length-append, take-append-drop}
 use Rattle.wire.specs.Parts.{splice}
 use Rattle.sending.specs.Answer.{sent_home}
-use Rattle.yard.specs.declared.Walked.{Walked}
 use Rattle.wire.proofs.Laws.{splice_join}
 use Rattle.wire.specs.Numbers.{byte_at}
 use Rattle.text.specs.Ascii.{ascii}

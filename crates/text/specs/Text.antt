@@ -5,8 +5,7 @@ use Rattle.wire.specs.Numbers.{byte_at}
 use Rattle.header.specs.Format.{header_size, most, standard_size, incoming_offset, outgoing_offset, upstream_offset, code_offset}
 use Rattle.message.specs.Blocks.{standard_blocks}
 use Rattle.sending.specs.Answer.{sent_home}
-use Rattle.yard.specs.declared.Walked.{Walked}
-use Rattle.yard.specs.Walk.{Walk, walked_of}
+use Rattle.yard.specs.Walk.{Walked, Walk, walked_of}
 use Rattle.text.specs.Ascii.{ascii}
 use Rattle.input.specs.Input.{walk_for}
 use Rattle.format.specs.Sizes.{ipv4}

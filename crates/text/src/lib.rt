@@ -6,13 +6,29 @@ ghost use Rattle.wire.specs.Parts.{splice};
 ghost use Rattle.header.specs.Format.{most, standard_size};
 ghost use Rattle.message.specs.Blocks.{standard_blocks};
 ghost use Rattle.text.specs.Text.{zero_digit, decimal, number, octet, dotted, addresses, code_text, line_of, lines_of, end_text, first_line, text_of, most_first, most_line, most_lines, text_size};
-ghost use Rattle.text.specs.Inside.{Written};
+ghost use Rattle.text.specs.Inside.{Written, told_of};
+ghost use Rattle.yard.specs.Walk.{walked_by};
 ghost use Rattle.format.specs.Sizes.{ipv4};
 
+use header::BlockKind;
+use refusal::Refusal;
+use sending::Answer;
 use yard::Walked;
 
 // No text is longer: a first line of at most 46 bytes, and a line of at most 78 for each of 27 blocks.
 pub const TEXT_SIZE: usize = 46 + 78 * 27;
+
+// The numbers of a walk: its end, its steps, and the blocks and the length of the last message sent.
+#[derive(Clone, Copy, Default)]
+struct Summary {
+    end: u32,
+    steps: u32,
+    blocks: u32,
+    length: u32,
+}
+
+// The end that is printed as a word.
+const SENT_HOME: u32 = Answer::SentHome as u32;
 
 const ZERO_DIGIT: u8 = b'0';
 
@@ -131,13 +147,6 @@ fn block_line(standard: bool, place: u32, block: &[u8], text: &mut [u8], at: usi
     at
 }
 
-// One of two numbers.
-fn either(first: bool, a: u32, b: u32) -> u32
-    ensures { result ≡ cond first a b }
-{
-    if first { a } else { b }
-}
-
 // A line for each type 4 block of a message, from each block to the next by its length.
 fn lines(m: &[u8], text: &mut [u8], from: usize) -> usize
     requires { (length m.now ≤ most) × (from + most_lines ≤ length text.old) }
@@ -149,17 +158,14 @@ fn lines(m: &[u8], text: &mut [u8], from: usize) -> usize
     let mut at = format::HEADER_SIZE;
     let mut count: u32 = 0;
     let mut next = from;
-    loop {
-        let block = message::block_at(format::IPV4, m, at);
-        if block.size == 0 {
-            return next;
-        }
-        let standard = block.kind == header::STANDARD;
+    while let Some(block) = message::block_at(format::IPV4, m, at) {
+        let standard = block.kind == BlockKind::Standard;
         let end = at + block.size;
         next = block_line(standard, count + 1, &m[at..end], text, next);
-        count = either(standard, count + 1, count);
+        count = if standard { count + 1 } else { count };
         at = end;
     }
+    next
 }
 
 // How a walk ended: `reply`, or its number.
@@ -167,16 +173,34 @@ fn end_text(end: u32, text: &mut [u8], at: usize) -> usize
     requires { at + 10 ≤ length text.old }
     ensures { Written (end_text end) 10 at text.old text.new result }
 {
-    if end == sending::SENT_HOME {
+    if end == SENT_HOME {
         return word(b"reply", text, at);
     }
     number(b"", end, text, at)
 }
 
+// What is told of a walk: nothing but its number of one that is refused.
+fn summary_of(outcome: Result<Walked, Refusal>) -> Summary
+    ensures { told_of result ≡ walked_by outcome }
+{
+    match outcome {
+        Ok(w) => Summary {
+            end: u32::from(w.end),
+            steps: w.steps,
+            blocks: w.blocks,
+            length: w.length,
+        },
+        Err(refusal) => Summary {
+            end: u32::from(refusal),
+            ..Summary::default()
+        },
+    }
+}
+
 // The first line: the end, the steps, the blocks.
-fn first_line(w: Walked, text: &mut [u8], at: usize) -> usize
+fn first_line(w: Summary, text: &mut [u8], at: usize) -> usize
     requires { at + most_first ≤ length text.old }
-    ensures { Written (first_line w) most_first at text.old text.new result }
+    ensures { Written (first_line (told_of w)) most_first at text.old text.new result }
 {
     let steps = end_text(w.end, text, at);
     let blocks = number(b" steps ", w.steps, text, steps);
@@ -191,7 +215,7 @@ pub fn text_of(input: &[u8], text: &mut [u8]) -> usize
     ensures text_after { text.new ≡ splice text.old 0 (text_of input.now) }
 {
     let mut output = [0u8; format::OUTPUT_SIZE];
-    let w = input::walk(input, &mut output);
+    let w = summary_of(input::walk(input, &mut output));
     let n = w.length as usize;
     let next = first_line(w, text, 0);
     lines(&output[..n], text, next)

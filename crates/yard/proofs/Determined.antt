@@ -1,18 +1,17 @@
 -- Two answers that meet the walk's promise are equal, and so are the outputs as they are left.
 use Prim.Native.Nat.{ℕ, ◌<◌}
 use mathlib.Core.List.{List}
-use mathlib.Core.Path.{◌≡◌, refl, sym, ap, ◌∙◌}
+use mathlib.Core.Path.{◌≡◌, refl, ap}
 use native.Mathlib.Omega.{arith}
 use Rattle.std.specs.Prelude.{Result, Ok, Err, IfOk}
 use Rattle.rows.proofs.Laws.{both_are}
 use Rattle.format.specs.declared.Format.{Format}
 use Rattle.refusal.specs.declared.Refusal.{Refusal}
-use Rattle.refusal.specs.Refusal.{number}
 use Rattle.refusal.proofs.Laws.{one_number, number_low}
 use Rattle.yard.specs.declared.End.{End}
 use Rattle.yard.specs.declared.End.TheVariants.{Dropped, SentHome, ToGroup, NobodyThere}
 use Rattle.yard.specs.declared.Walked as code
-use Rattle.yard.specs.Walk.{Walk, Walked, end_number, walked, walked_by, Tells}
+use Rattle.yard.specs.Walk.{Walk, Walked, end_number, walked_by, Tells}
 use Rattle.yard.proofs.walk.Reads as walk
 
 pub tells_settled : {F : Format} {w : Walk} {output output' output'' : List ℕ} {x y : Walked} → Tells F w output x output' → Tells F w output y output''
@@ -39,7 +38,7 @@ one_end NobodyThere ToGroup z = absurd (omega (arith, z))
 one_end NobodyThere NobodyThere z = refl
 
 -- and so is what is answered, since a walk that is not refused has a step
-one_answer : (x y : Result code.Walked Refusal) → IfOk x (λ w. 0 < w.steps) → IfOk y (λ w. 0 < w.steps) → walked_by x ≡ walked_by y → x ≡ y
+pub one_answer : (x y : Result code.Walked Refusal) → IfOk x (λ w. 0 < w.steps) → IfOk y (λ w. 0 < w.steps) → walked_by x ≡ walked_by y → x ≡ y
 one_answer (Ok a) (Ok b) p q e =
     let end : a.end ≡ b.end = one_end a.end b.end (ap (λ (w : Walked). w.end) e) in
     let steps : a.steps ≡ b.steps = ap (λ (w : Walked). w.steps) e in

@@ -17,7 +17,7 @@ use Rattle.yard.proofs.Rows.{no_block}
 use lib.Dec.{eqb}
 use Rattle.message.specs.Room.{hops_left}
 use Rattle.sending.specs.Answer.{sent_on}
-use Rattle.yard.specs.Walk.{sent_at, end_of, next_of, enters, ends_at, Walk, Walked, walked, walk_by, Visit, refused_walk, walked_of, walk_from, walk_of, Tells}
+use Rattle.yard.specs.Walk.{sent_at, end_of, next_of, enters, ends_at, Walk, Walked, walked, walk_by, Visit, refused_walk, walk_from, walk_of, Tells}
 use Rattle.yard.specs.Inside.{YardChecked, CanEnter}
 use Rattle.yard.proofs.Sheets.{yard_right}
 use Rattle.format.specs.declared.Format.{Format}

@@ -27,18 +27,17 @@ use Rattle.yard.specs.declared.Hop.{Hop}
 use Rattle.yard.specs.declared.Onward.{Onward}
 use Rattle.yard.specs.declared.End.{End}
 use Rattle.yard.specs.declared.End.TheVariants.{Dropped, SentHome, ToGroup, NobodyThere}
-use Rattle.yard.specs.declared.Yard.{Yard}
 use Rattle.yard.specs.declared.Walked as code
 use Rattle.refusal.specs.declared.Refusal.{Refusal}
 use Rattle.refusal.specs.Refusal.{number}
 use Rattle.refusal.proofs.Laws.{number_low}
 use Rattle.engine.specs.Step.{answer_of}
 use Rattle.yard.specs.Yard.{sheet_size, routers_in, sheet_at, holder_in}
-use Rattle.yard.specs.Walk.{to_group, nobody_there, end_number, Walked, walked, Visit, visit, sent_for, sent_at, end_by, end_of, next_by, next_of, walk_from, Tells}
-use Rattle.yard.specs.Inside.{end_told, CanEnter, Called, Onwards, Hopped, Ended}
+use Rattle.yard.specs.Walk.{to_group, end_number, Walked, walked, Visit, visit, sent_for, sent_at, end_by, end_of, next_of, walk_from, Tells}
+use Rattle.yard.specs.Inside.{end_told, Called, Onwards, Hopped, Ended}
 use Rattle.yard.proofs.Sheets.{lent_sheet}
 use Rattle.yard.proofs.Holders.{holder_found}
-use Rattle.yard.proofs.Turns.{end_not_on, end_group, end_held, goes_on_lem, falls, sent_short, from_ends, from_on}
+use Rattle.yard.proofs.Turns.{goes_on_lem, falls, sent_short, from_ends, from_on}
 use Rattle.yard.proofs.Traces.{walk_within}
 use Rattle.format.specs.declared.Format.{Format}
 use Rattle.format.specs.Sizes.{Sound, output_size}

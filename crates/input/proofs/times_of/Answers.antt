@@ -8,10 +8,10 @@ use Rattle.input.proofs.times_of.Goals as goal
 
 pub loop-i-init : goal.loop-i-init
 unfolding times_of
-loop-i-init c = (omega arith, refl, refl)
+loop-i-init c = (refl, refl)
 
 pub loop-i-preserved : goal.loop-i-preserved
-loop-i-preserved c = (omega arith, simp length-set (omega arith), search time_set)
+loop-i-preserved c = (simp length-set (omega arith), search time_set)
 
 pub returns : goal.returns
 returns c = search times-set

@@ -2,5 +2,5 @@
 use Rattle.input.proofs.Given.{walk_asked}
 use Rattle.input.proofs.walk.Goals as goal
 
-pub returns : goal.returns
-returns c = search walk_asked
+pub returns-clause-told : goal.returns-clause-told
+returns-clause-told c = search walk_asked

@@ -2,5 +2,5 @@
 use Rattle.input.proofs.Given.{walk_from}
 use Rattle.input.proofs.walk_from.Goals as goal
 
-pub returns : goal.returns
-returns c = search walk_from
+pub returns-clause-told : goal.returns-clause-told
+returns-clause-told c = search walk_from

@@ -1,6 +1,5 @@
 -- `holder_in`: the whole search is the search from router i on.
 use Rattle.format.specs.Sizes.{ipv4_sound}
-use native.Mathlib.Omega.{arith}
 use Rattle.yard.proofs.Sheets.{count-told, search_start, search_found, search_on, search_none}
 use Rattle.yard.proofs.holder_in.Goals as goal
 
