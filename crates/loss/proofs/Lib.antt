@@ -2,7 +2,6 @@
 pub mod Laws
 pub mod Determined
 -- Where they are proved.
-mod Read
 mod Bytes
 mod Along
 mod Rows

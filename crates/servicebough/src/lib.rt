@@ -8,6 +8,7 @@ ghost use Rattle.drops.specs.Arrival.{arrival};
 ghost use Rattle.engine.specs.Step.{outcome, StepMeets};
 ghost use Rattle.yard.specs.Walk.{visit, walked, walk_of};
 ghost use Rattle.rows.specs.Rows.{first_of};
+ghost use Rattle.refusal.specs.Refusal.{number_of};
 ghost use Rattle.reply.specs.Check.{reply_rows};
 ghost use Rattle.reply.specs.Copy.{copied, copied_next};
 ghost use Rattle.loss.specs.Loss.{written, loss_of};
@@ -131,25 +132,38 @@ pub fn bough_walk(
     }
 }
 
+// The number that a check comes to: 0 where it does not refuse.
+fn number_of(outcome: Result<(), Refusal>) -> u32
+    ensures { result ≡ number_of outcome }
+{
+    match outcome {
+        Ok(()) => 0,
+        Err(refusal) => u32::from(refusal),
+    }
+}
+
 // A Reply checked.
 pub fn bough_reply_check(reply: &[u8]) -> u32
     ensures { result ≡ first_of (reply_rows reply.now) }
 {
-    reply::check(reply)
+    number_of(reply::check(reply))
 }
 
 // The next block of a Reply at or after a place.
 pub fn bough_reply_next(reply: &[u8], place: u32, block: &mut [u8]) -> u32
     ensures { copied result block.new ≡ copied_next reply.now place block.old }
 {
-    reply::copy_next(reply, place as usize, block)
+    match reply::copy_next(reply, place as usize, block) {
+        Some(behind) => behind as u32,
+        None => 0,
+    }
 }
 
 // The loss between two Replies.
 pub fn bough_reply_loss(first: &[u8], second: &[u8], links: &mut [u8]) -> u32
     ensures { written result links.new ≡ loss_of first.now second.now links.old }
 {
-    loss::loss(first, second, links)
+    number_of(loss::loss(first, second, links))
 }
 
 // The time between two arrivals.

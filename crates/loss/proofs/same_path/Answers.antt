@@ -1,36 +1,35 @@
--- `same_path`: whether the two are over one path is told by the blocks from here on.
+-- `same_path`: the next block of each is taken, as far as both have one.
+use mathlib.Core.Path.{refl, ap, ◌∙◌}
 use native.Mathlib.Omega.{arith}
-use Rattle.loss.proofs.Along.{along_first, both_inside, one_behind, other_behind, along_parts, along_on, along_less, along_over}
+use Rattle.reply.specs.Inside.{left_of}
+use Rattle.reply.proofs.Laws.{item_long}
+use Rattle.loss.proofs.Along.{along_first, along_parts, along_on, along_short, along_over}
 use Rattle.loss.proofs.same_path.Goals as goal
 
-pub loop-at-init : goal.loop-at-init
-loop-at-init c = search along_first
+pub loop-block-init : goal.loop-block-init
+loop-block-init c =
+    let all = ap left_of c.into_iter-block-iterator.ensures.into_iter_gives ∙ c.known_blocks-block-items.ensures.left in
+    along_first c.args.first.now c.args.second.now _ _ c.known_blocks-others.ensures.fills all c.known_blocks-others.ensures.left
 
 pub same_router-requires : goal.same_router-requires
-same_router-requires c = both_inside _ _ _ _ c.loop-at.invariant c.loop-at-test.true
+same_router-requires c =
+    let block = item_long _ _ _ _ c.in-Some.ensures.steps in
+    let other = item_long _ _ _ _ c.in-Some-next.ensures.steps in
+    (omega (arith, block), omega (arith, other))
+
+pub returns-in_default : goal.returns-in_default
+returns-in_default c =
+    along_short _ _ _ _ c.loop-block.invariant _ _ c.in-Some.ensures.steps c.in_default.ensures.steps.0
 
 pub returns-then-not-same_router : goal.returns-then-not-same_router
-returns-then-not-same_router c = search along_parts
+returns-then-not-same_router c =
+    along_parts _ _ _ _ c.loop-block.invariant _ _ _ _ c.in-Some.ensures.steps c.in-Some-next.ensures.steps _ c.same_router.ensures c.if-not-same_router.true
 
-pub overflow_add-at : goal.overflow_add-at
-overflow_add-at c =
-    omega (arith, (both_inside _ _ _ _ c.loop-at.invariant c.loop-at-test.true).0)
-
-pub overflow_add-at2 : goal.overflow_add-at2
-overflow_add-at2 c =
-    omega (arith, (both_inside _ _ _ _ c.loop-at.invariant c.loop-at-test.true).1)
-
-pub next_known-at-requires-in-loop-at : goal.next_known-at-requires-in-loop-at
-next_known-at-requires-in-loop-at c = search one_behind
-
-pub next_known-at2-requires-in-loop-at : goal.next_known-at2-requires-in-loop-at
-next_known-at2-requires-in-loop-at c = search other_behind
-
-pub loop-at-smaller : goal.loop-at-smaller
-loop-at-smaller c = search along_less
-
-pub loop-at-preserved : goal.loop-at-preserved
-loop-at-preserved c = search along_on
+pub loop-block-preserved : goal.loop-block-preserved
+loop-block-preserved c =
+    along_on _ _ _ _ c.loop-block.invariant _ _ _ _ c.in-Some.ensures.steps c.in-Some-next.ensures.steps _ c.same_router.ensures
+    _ _ refl refl c.in-Some-next.ensures.goes.keeps c.if-not-same_router.false
 
 pub returns : goal.returns
-returns c = search along_over
+returns c =
+    along_over _ _ _ _ c.loop-block.invariant _ _ c.next-2.new.self c.in-None.ensures.steps.0 c.next-2.ensures.steps c.is_none.ensures

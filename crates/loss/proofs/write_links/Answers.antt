@@ -1,59 +1,38 @@
--- `write_links`: the bytes at the end are those now, with the links from here on.
+-- `write_links`: the next block of each message is taken, as far as both have one.
+use mathlib.Core.Path.{ap, ◌∙◌}
 use native.Mathlib.Omega.{arith}
-use Rattle.loss.proofs.Linking.{near_behind, near_inside, between_first, ends_inside, one_behind, other_behind, link_inside, between_moves, between_on, between_over}
+use Rattle.reply.specs.Inside.{left_of}
+use Rattle.reply.proofs.Laws.{item_long}
+use Rattle.loss.proofs.Linking.{either_over, none_first, between_first, between_on, between_over}
 use Rattle.loss.proofs.write_links.Goals as goal
 
-pub overflow_add-near : goal.overflow_add-near
-overflow_add-near c = omega (arith, near_inside _ _ c.requires.0 c.next_known-near.ensures.0)
-
-pub overflow_add-near2 : goal.overflow_add-near2
-overflow_add-near2 c = omega (arith, near_inside _ _ c.requires.2 c.next_known-near2.ensures.0)
+pub returns-in_default : goal.returns-in_default
+returns-in_default c =
+    let one = ap left_of c.zip-blocks.ensures.first ∙ c.known_blocks.ensures.left in
+    let other = ap left_of c.zip-blocks.ensures.second ∙ c.known_blocks-2.ensures.left in
+    none_first _ _ _ c.zip-blocks.result one other (either_over c.zip-blocks.result c.in_default.ensures.steps)
 
 pub loop-far-init : goal.loop-far-init
-loop-far-init c = search between_first
+loop-far-init c =
+    let one = ap left_of c.zip-blocks.ensures.first ∙ c.known_blocks.ensures.left in
+    let other = ap left_of c.zip-blocks.ensures.second ∙ c.known_blocks-2.ensures.left in
+    rw c.into_iter-far-iterator.ensures.into_iter_gives
+    (between_first _ _ _ c.zip-blocks.result c.next.new.self _ _ (omega (arith, c.requires.0)) c.requires.1 c.requires.3 one other c.in-Some.ensures.steps.0 c.in-Some.ensures.steps.1)
 
-pub link_at-l-requires : goal.link_at-l-requires
-link_at-l-requires c = ends_inside _ _ _ _ _ _ _ _ _ c.loop-far.invariant c.loop-far-test.true
+pub count_in-requires : goal.count_in-requires
+count_in-requires c =
+    let far = item_long _ _ _ _ c.in-Some-2.ensures.steps.0 in
+    (omega (arith, c.loop-far.invariant.one), omega (arith, far))
 
-pub write_link-requires : goal.write_link-requires
-write_link-requires c =
-    link_inside _ _ _ _ _ _ _ _ _ c.loop-far.invariant c.loop-far-test.true
-
-pub overflow_add-at : goal.overflow_add-at
-overflow_add-at c =
-    omega (arith, link_inside _ _ _ _ _ _ _ _ _ c.loop-far.invariant c.loop-far-test.true)
-
-pub overflow_add-far : goal.overflow_add-far
-overflow_add-far c =
-    omega (arith, (ends_inside _ _ _ _ _ _ _ _ _ c.loop-far.invariant c.loop-far-test.true).1)
-
-pub overflow_add-far2 : goal.overflow_add-far2
-overflow_add-far2 c =
-    omega (arith, (ends_inside _ _ _ _ _ _ _ _ _ c.loop-far.invariant c.loop-far-test.true).3)
-
-pub next_known-near-requires : goal.next_known-near-requires
-next_known-near-requires c = c.requires.0.fills
-
-pub next_known-near2-requires : goal.next_known-near2-requires
-next_known-near2-requires c = c.requires.2.fills
-
-pub next_known-far-requires : goal.next_known-far-requires
-next_known-far-requires c = search near_behind
-
-pub next_known-far2-requires : goal.next_known-far2-requires
-next_known-far2-requires c = search near_behind
-
-pub next_known-far-requires-in-loop-far : goal.next_known-far-requires-in-loop-far
-next_known-far-requires-in-loop-far c = search one_behind
-
-pub next_known-far2-requires-in-loop-far : goal.next_known-far2-requires-in-loop-far
-next_known-far2-requires-in-loop-far c = search other_behind
-
-pub loop-far-smaller : goal.loop-far-smaller
-loop-far-smaller c = search between_moves
+pub count_in-requires-in-loop-far : goal.count_in-requires-in-loop-far
+count_in-requires-in-loop-far c =
+    let far = item_long _ _ _ _ c.in-Some-2.ensures.steps.1 in
+    (omega (arith, c.loop-far.invariant.other), omega (arith, far))
 
 pub loop-far-preserved : goal.loop-far-preserved
-loop-far-preserved c = search between_on
+loop-far-preserved c =
+    between_on _ _ _ _ _ _ _ _ c.loop-far.invariant c.next-in-loop-far.new.self _ _ c.in-Some-2.ensures.steps.0 c.in-Some-2.ensures.steps.1
+    c.link_of-l.result _ (cc) c.write_link.ensures
 
 pub returns : goal.returns
-returns c = search between_over
+returns c = between_over _ _ _ _ _ _ _ _ c.loop-far.invariant (either_over c.loop-far.far-iterator c.in-None.ensures.steps)
