@@ -86,7 +86,7 @@ fn write_answer(w: Walked, answer: &mut [u8])
     requires { answer_size ≤ length answer.old }
     ensures { answer.new ≡ answer_left (walked w) answer.old }
 {
-    if matches!(w.end, End::Dropped(_)) {
+    if let End::Dropped(_) = w.end {
         return;
     }
     wire::put32(answer, 0, u32::from(w.end));
