@@ -20,9 +20,9 @@ pub const SOURCE_ONLY: u8 = 3;
 pub const UNKNOWN: u16 = u16::MAX;
 
 // The flags of a route.
-const RP_FLAG: u8 = 1;
+pub const RP_FLAG: u8 = 1;
 
-const PRUNE_FLAG: u8 = 2;
+pub const PRUNE_FLAG: u8 = 2;
 
 #[derive(Clone, Copy)]
 pub struct Route {
