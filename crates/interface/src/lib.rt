@@ -11,6 +11,11 @@ use prefix::ADDRESS_BITS;
 // The most interfaces: a map has a bit for each.
 pub const MOST_INTERFACES: usize = 64;
 
+// The flags of an interface.
+const MULTICAST_FLAG: u8 = 1;
+
+const BOUNDARY_FLAG: u8 = 2;
+
 #[derive(Clone, Copy)]
 pub struct Interface {
     pub address: u32,
@@ -25,6 +30,7 @@ pub struct Interface {
 }
 
 // The interface whose bytes begin at `at`.
+#[tactic(auto, unfolding(crate::specs::Interface::interface_at))]
 pub fn interface_at(s: &[u8], at: usize) -> Interface
     requires { at + interface_fields ≤ length s.now }
     ensures { result ≡ interface_at s.now at }
@@ -46,14 +52,15 @@ pub fn interface_at(s: &[u8], at: usize) -> Interface
 pub fn is_multicast(i: Interface) -> bool
     ensures { result ≡ is_multicast i }
 {
-    i.flags % 2 == 1
+    i.flags & MULTICAST_FLAG != 0
 }
 
 // Whether the boundary flag is set.
+#[tactic(auto, using(wire::proofs::Laws::second_flag))]
 pub fn is_boundary(i: Interface) -> bool
     ensures { result ≡ is_boundary i }
 {
-    i.flags / 2 % 2 == 1
+    i.flags & BOUNDARY_FLAG != 0
 }
 
 // Whether the interface whose bytes begin at `at` keeps every rule on it: what no rule looks at is not read.
@@ -66,7 +73,7 @@ pub fn interface_ok(f: Format, s: &[u8], at: usize) -> bool
     }
     (1 <= s[at + 4])
         & (s[at + 4] <= ADDRESS_BITS)
-        & (s[at + 5] <= 3)
+        & (s[at + 5] <= MULTICAST_FLAG | BOUNDARY_FLAG)
         & (s[at + 7] == 0)
         & (f.mtu <= wire::be16(s, at + 24))
         & (wire::be16(s, at + 26) == 0)

@@ -1,12 +1,13 @@
 // A route entry of a sheet, read once into a struct by value.
-#![tactic(auto)]
+#![tactic(auto, unfolding(crate::specs::Route::route_at))]
 
 ghost use Rattle.std.specs.Prelude.{◌≡◌, ◌+◌, ◌≤◌, ◌<◌, length};
 ghost use Rattle.format.specs.Sizes.{route_fields};
 ghost use Rattle.interface.specs.Interface.{most_interfaces};
 ghost use Rattle.route_entry.specs.Route.{route_at, is_rp, prune_sent, in_map};
 
-// The kind of a route for a source and a group.
+// The kind of a route for a source and a group. Kinds are bytes and no enum: until a sheet is checked it may hold any byte there, and
+// the choice of a route compares that byte of each entry.
 pub const SOURCE_AND_GROUP: u8 = 1;
 
 // The kind of a route for a group.
@@ -16,7 +17,12 @@ pub const GROUP_ONLY: u8 = 2;
 pub const SOURCE_ONLY: u8 = 3;
 
 // The number of an incoming interface that is not known.
-pub const UNKNOWN: u16 = 65535;
+pub const UNKNOWN: u16 = u16::MAX;
+
+// The flags of a route.
+pub const RP_FLAG: u8 = 1;
+
+pub const PRUNE_FLAG: u8 = 2;
 
 #[derive(Clone, Copy)]
 pub struct Route {
@@ -97,14 +103,15 @@ pub fn route_at(s: &[u8], at: usize) -> Route
 pub fn is_rp(r: Route) -> bool
     ensures { result ≡ is_rp r }
 {
-    r.flags % 2 == 1
+    r.flags & RP_FLAG != 0
 }
 
 // Whether the flag for a prune that was sent is set.
+#[tactic(auto, using(wire::proofs::Laws::second_flag))]
 pub fn prune_sent(r: Route) -> bool
     ensures { result ≡ prune_sent r }
 {
-    r.flags / 2 % 2 == 1
+    r.flags & PRUNE_FLAG != 0
 }
 
 // Whether interface `i` is in a map.

@@ -6,8 +6,9 @@ use mathlib.Core.List.{List, ◌++◌, append_assoc}
 use native.Mathlib.Omega.{arith}
 use native.Mathlib.Nat.{add_assoc, zero-add, add-zero, pow-suc, mod-lt, div-add-mod', div-lt_iff_lt-mul, one-le-pow, mul_comm}
 use lib.Pow.{pow-add}
-use lib.Bits.{bit_or, and_le_r, or_add_and}
-use mathlib.Core.Bool.{true, ◌&&◌}
+use lib.Bits.{bit_and, bit_or, and_le_r, or_add_and}
+use Rattle.std.proofs.lemmas.Nat.Bits.{and_pow}
+use mathlib.Core.Bool.{true, ◌&&◌, not}
 use borrow.Author.Tests.{leb-true, eqb-true, ne_eqb}
 use lib.Dec.{leb, eqb, lit≤}
 use lib.ListN.{length, take, drop, length-append, length-drop, get_or-append}
@@ -21,6 +22,10 @@ pub or_none : (a b : ℕ) → eqb (bit_or a b) 0 ≡ (eqb a 0 && eqb b 0)
 or_none zero b = refl
 or_none (suc a) b =
     rw (ne_eqb (bit_or (suc a) b) 0 (λ e. omega (arith, or_add_and (suc a) b, and_le_r (suc a) b)), ne_eqb (suc a) 0 (λ e. omega arith))
+
+-- a mask of one bit finds that bit: the second of a byte of flags
+pub second_flag : (n : ℕ) → not (eqb (bit_and n 2) 0) ≡ eqb (n / 2 % 2) 1
+second_flag n = grind (arith, and_pow n 1)
 
 -- the powers that widths bring
 pub double : (d : ℕ) → 2 ^ suc d ≡ 2 ^ d + 2 ^ d
