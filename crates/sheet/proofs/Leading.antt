@@ -1,14 +1,14 @@
 -- The interface blocks that stand first are all of them: in a valid sheet, and where every block keeps its rules with as many.
-use Prim.Native.Nat.{ℕ, zero, suc, ◌+◌, ◌*◌, ◌-◌, ◌≤◌, ◌<◌}
-use mathlib.Core.Bool.{Bool, true, false, not}
+use Prim.Native.Nat.{ℕ, zero, suc, ◌+◌, ◌*◌, ◌/◌, ◌-◌, ◌≤◌, ◌<◌}
+use mathlib.Core.Bool.{Bool, true, false}
 use mathlib.Core.List.{List}
-use mathlib.Core.Logic.{⊎_elim}
+use mathlib.Core.Logic.{⊎_elim, ◌↔◌}
 use mathlib.Core.Path.{◌≡◌, refl, sym, ◌∙◌}
 use native.Mathlib.Omega.{arith}
-use native.Mathlib.Nat.{add-sub_cancel_left, eq-or-lt_of_le}
+use native.Mathlib.Nat.{eq-or-lt_of_le}
 use lib.Dec.{ltb, eqb}
-use lib.ListN.{take, drop}
-use borrow.Author.Tests.{lt-ltb, le-ltb, eq-eqb, ne_eqb, eqb-true, ltb-true, ltb-false, not-true, not-false}
+use lib.ListN.{length, get_or}
+use borrow.Author.Tests.{lt-ltb, le-ltb, eq-eqb, ne_eqb, eqb-true, ltb-true, ltb-false}
 use Rattle.rows.proofs.Laws.{decided, parts}
 use Rattle.wire.specs.Numbers.{byte_at}
 use Rattle.block.specs.Block.{block_size, kind_of, frame_ok}
@@ -16,52 +16,77 @@ use Rattle.format.specs.declared.Format.{Format}
 use Rattle.sheet_block.specs.Every.{every}
 use Rattle.sheet_block.specs.Rules.{interface_kind, route_kind, interface_right, route_right, block_ok}
 use Rattle.sheet.specs.Sheet.{blocks, sheet_block, interface_blocks_in, interface_blocks, interfaces_in, interface_block_ok, route_block_ok, block_ok_with}
-use Rattle.sheet.specs.Inside.{Leading}
-use Rattle.sheet_block.proofs.Laws.{every_one, every_short, every_same}
+use Rattle.sheet.specs.Inside.{Leading, in_run}
+use Rattle.sheet_block.proofs.Laws.{every_one, every_is}
 use Rattle.sheet.proofs.Valid.{Valid}
+use Rattle.std.specs.List.{IsSubsliceAt}
+use Rattle.std.proofs.lemmas.Bool.{cases_lt}
+use Rattle.std.specs.Prelude.{IsTrue, Option, Some, None, is_some, option_map, IfSome, MatchOption}
 
--- the blocks before k are interface blocks; one more, and the end of them
-abbrev pub FirstOnes : List ℕ → ℕ → Type 0
+-- the blocks before k are interface blocks
+abbrev FirstOnes : List ℕ → ℕ → Type 0
 FirstOnes s k = (j : ℕ) → j < k → kind_of (sheet_block s j) ≡ interface_kind
 
-pub one_more : (s : List ℕ) (k x : ℕ) → FirstOnes s k → x ≡ byte_at (sheet_block s k) 0 → x ≡ interface_kind → FirstOnes s (k + 1)
-one_more s k x before e f j h = ⊎_elim (λ (q : j ≡ k). rw q (sym e ∙ f)) (λ (q : j < k). before j q) (eq-or-lt_of_le {n = j} {m = k} (omega arith))
+-- Chunks of the size of a block, `at` by number, of which those that pass were taken up to the first that does not: m of them, `took` by
+-- number. They are the interface blocks that stand first.
+module _ (s : List ℕ) {X : Type 0} (now : X → List ℕ) (at took : ℕ → Option X) (m n : ℕ) (Yes No : X → Type 0)
+    (yes' : (x : X) → Yes x → byte_at (now x) 0 ≡ interface_kind) (no' : (x : X) → No x → byte_at (now x) 0 ≡ interface_kind → ⊥) where
+  taken : (k : ℕ) (o : Option X) → is_some o ≡ true → IfSome o Yes → IfSome o (λ x. now x ≡ sheet_block s k) → kind_of (sheet_block s k) ≡ interface_kind
+  taken k None e y w = cc
+  taken k (Some x) e y w = rw w at (yes' x y)
 
-pub other_next : (s : List ℕ) (n k x : ℕ) → FirstOnes s k → k < n → x ≡ byte_at (sheet_block s k) 0 → (x ≡ interface_kind → ⊥) → Leading s n k
-other_next s n k x before h e f = record { within = omega arith; first = before; next = λ l z. f (e ∙ z) }
+  left : (whole : Bool) (o : Option X) → (whole ≡ true → n ≡ blocks s) → MatchOption o ((whole ≡ true) × (n ≡ m)) No → IfSome o (λ x. now x ≡ sheet_block s m)
+      → m < blocks s → kind_of (sheet_block s m) ≡ interface_kind → ⊥
+  left whole None all f w l z = omega (arith, all f.0, f.1)
+  left whole (Some x) all f w l z = no' x f (rw w z)
 
-pub none_next : (s : List ℕ) (n k : ℕ) → FirstOnes s k → k ≤ n → n ≤ k → Leading s n k
-none_next s n k before h e = record { within = h; first = before; next = λ l z. omega arith }
+  chunk_is : (size : ℕ) (bytes : List ℕ) (k : ℕ) (o : Option X) → size ≡ block_size → bytes ≡ s
+      → IfSome o (λ x. (length (now x) ≡ size) × (k * size + size ≤ length bytes) × IsSubsliceAt size bytes (k * size) (now x)) → IfSome o (λ x. now x ≡ sheet_block s k)
+  chunk_is size bytes k None e f h = h
+  chunk_is size bytes k (Some x) e f h = let q : k * block_size ≡ block_size * k = omega arith in rw (e, f, q) at h.2.0
 
--- a block by its number
-pub interface_block : (F : Format) (s : List ℕ) (k m : ℕ) (x : Bool)
-    → x ≡ block_ok interface_kind F.interface (interface_right F) k (eqb (k + 1) m) (take (block_size * k + block_size - block_size * k) (drop (block_size * k) s))
-    → x ≡ interface_block_ok F s m k
-unfolding interface_block_ok
-interface_block F s k m x f = rw add-sub_cancel_left at f
+  some_at : (o : Option X) (x : X) → option_map (λ y. y) o ≡ Some x → is_some o ≡ true
+  some_at None x e = cc
+  some_at (Some y) x e = refl
 
-pub route_block : (F : Format) (s : List ℕ) (k interfaces : ℕ) (x : Bool)
-    → x ≡ block_ok route_kind F.route (route_right interfaces) k (eqb (k + 1) (blocks s)) (take (block_size * k + block_size - block_size * k) (drop (block_size * k) s))
-    → x ≡ route_block_ok F s interfaces k
-unfolding route_block_ok
-route_block F s k interfaces x f = rw add-sub_cancel_left at f
+  pub leading_chunks : (size : ℕ) (bytes : List ℕ) (whole : Bool) (items : List X) (d : X) → size ≡ block_size → bytes ≡ s
+      → (n * size ≤ length bytes) × (whole ≡ true → n ≡ length bytes / size)
+      × ((k : ℕ) → IfSome (at k) (λ x. (length (now x) ≡ size) × (k * size + size ≤ length bytes) × IsSubsliceAt size bytes (k * size) (now x)))
+      → m ≤ n → ((k : ℕ) → k < m → at k ≡ took k) → ((k : ℕ) (d : X) → k < m → option_map (λ y. y) (took k) ≡ Some (get_or items k d))
+      → ((k : ℕ) → IfSome (took k) Yes) → MatchOption (at m) ((whole ≡ true) × (n ≡ m)) No → Leading s (blocks s) m
+  leading_chunks size bytes whole items d e f chunks few same read y stop =
+      let is : (k : ℕ) → IfSome (at k) (λ x. now x ≡ sheet_block s k) = λ k. chunk_is size bytes k (at k) e f (chunks.2 k) in
+      record {
+        within = omega (arith, rw (e, f) at chunks.0);
+        first = λ k h. taken k (took k) (some_at (took k) _ (read k d h)) (y k) (rw (same k h) at (is k));
+        next = left whole (at m) (λ w. rw (e, f) at (chunks.1 w)) stop (is m);
+      }
 
--- where there are m interface blocks, the first m keep the rules of those, and each behind them those of a route block
+-- where there are m interface blocks, the first m are to keep the rules of those, and each behind them those of a route block
 module _ (F : Format) (s : List ℕ) (m interfaces : ℕ) where
-  first_kind : every (interface_block_ok F s m) m ≡ every (block_ok_with F s m interfaces) m
-  unfolding block_ok_with
-  first_kind = every_same (interface_block_ok F s m) (block_ok_with F s m interfaces) m (λ k h. rw (lt-ltb k m h))
+  at_first : (k : ℕ) → k < m → block_ok_with F s m interfaces k ≡ in_run interface_kind F.interface (interface_right F) s m k
+  unfolding block_ok_with interface_block_ok
+  at_first k h = rw (lt-ltb k m h)
 
-  pub second_kind : (k : ℕ) (x : Bool) → m ≤ k → x ≡ route_block_ok F s interfaces k → x ≡ block_ok_with F s m interfaces k
-  unfolding block_ok_with
-  second_kind k x h e = rw (le-ltb k m h) e
+  at_rest : (k : ℕ) → m ≤ k → block_ok_with F s m interfaces k ≡ in_run route_kind F.route (route_right interfaces) s (blocks s) k
+  unfolding block_ok_with route_block_ok
+  at_rest k h = rw (le-ltb k m h)
 
-  module _ (x : Bool) (told : x ≡ every (interface_block_ok F s m) m) where
-    pub first_kept : not x ≡ false → true ≡ every (block_ok_with F s m interfaces) m
-    first_kept e = sym (not-false x e) ∙ told ∙ first_kind
+  module _ (x : Bool) (first : IsTrue x ↔ ((k : ℕ) → 0 ≤ k → k < m → in_run interface_kind F.interface (interface_right F) s m k ≡ true)) where
+    pub first_broken : x ≡ false → m ≤ blocks s → x ≡ every (block_ok_with F s m interfaces) (blocks s)
+    first_broken e within =
+        every_is (block_ok_with F s m interfaces) x (blocks s) ((λ t. cc), (λ each. first.1 (λ k l h. sym (at_first k h) ∙ each k (omega arith))))
 
-    pub first_broken : not x ≡ true → m ≤ blocks s → false ≡ every (block_ok_with F s m interfaces) (blocks s)
-    first_broken e h = sym (every_short (block_ok_with F s m interfaces) m (blocks s) h (sym (told ∙ first_kind) ∙ not-true x e))
+    pub first_kept : (y : Bool) (size n : ℕ) → x ≡ true → m ≤ blocks s → size ≡ F.route → n ≡ interfaces
+        → IsTrue y ↔ ((k : ℕ) → m ≤ k → k < blocks s → in_run route_kind size (route_right n) s (blocks s) k ≡ true)
+        → y ≡ every (block_ok_with F s m interfaces) (blocks s)
+    first_kept y size n e within ez en rest =
+        let rest' = rw (ez, en) at rest in
+        every_is (block_ok_with F s m interfaces) y (blocks s) (
+          (λ t k h.
+              ⊎_elim (λ (l : k < m). at_first k l ∙ first.0 e k (omega arith) l) (λ (l : m ≤ k). at_rest k l ∙ rest'.0 t k l h) (cases_lt k m)),
+          (λ each. rest'.1 (λ k l h. sym (at_rest k l) ∙ each k h)),
+        )
 
 -- blocks that are all counted, and blocks of which none is
 all_counted : (s : List ℕ) (n : ℕ) → FirstOnes s n → interface_blocks_in s n ≡ n

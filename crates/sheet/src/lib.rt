@@ -1,17 +1,16 @@
 // The check of a whole sheet.
 #![tactic(auto)]
 
-ghost use Rattle.std.specs.Prelude.{◌≡◌, true, ◌+◌, ◌*◌, ◌/◌, ◌≤◌, ◌<◌, length};
-ghost use Rattle.wire.specs.Numbers.{byte_at};
+ghost use Rattle.std.specs.Prelude.{◌≡◌, ◌↔◌, true, IsTrue, ℕ, ◌+◌, ◌*◌, ◌/◌, ◌≤◌, ◌<◌, length};
 ghost use Rattle.block.specs.Block.{block_size, entries_room};
 ghost use Rattle.format.specs.Sizes.{Sound, ipv4};
 ghost use Rattle.interface.specs.Interface.{most_interfaces};
 ghost use Rattle.sheet_block.specs.Every.{every};
-ghost use Rattle.sheet.specs.Sheet.{most_blocks, sheet_size_ok, blocks, sheet_block, entries_in, interface_block_ok, route_block_ok, block_ok_with, told_of};
-ghost use Rattle.sheet.specs.Inside.{Leading};
+ghost use Rattle.sheet.specs.Sheet.{most_blocks, sheet_size_ok, blocks, entries_in, block_ok_with, told_of};
+ghost use Rattle.sheet.specs.Inside.{Leading, in_run};
 
 use format::Format;
-use sheet_block::{INTERFACE_KIND, interface_block_ok, route_block_ok, wide};
+use sheet_block::{Entries, Interfaces, Routes, block_ok};
 
 // The most blocks of a sheet.
 const MOST_BLOCKS: usize = 16;
@@ -33,102 +32,45 @@ fn size_ok(size: usize) -> bool
         & (size / block::BLOCK_SIZE <= MOST_BLOCKS)
 }
 
-// Byte `j` of block `k`.
-fn byte_of(s: &[u8], k: usize, j: usize) -> usize
-    requires { (block_size * k + block_size ≤ length s.now) × (j < block_size) }
-    ensures { (result ≡ byte_at (sheet_block s.now k) j) × (result < 256) }
+// How many interface blocks stand before the first block of another kind. In a sheet that keeps the rules there are no others; where
+// there are, one of them breaks the rules on route blocks.
+fn interface_blocks(s: &[u8]) -> usize
+    ensures { Leading s.now (blocks s.now) result }
 {
-    wide(s[block::BLOCK_SIZE * k + j])
-}
-
-// How many interface blocks stand before the first block of another kind, among the first `n`. In a sheet that keeps the rules
-// there are no others; where there are, one of them breaks the rules on route blocks.
-fn interface_blocks(s: &[u8], n: usize) -> usize
-    requires { block_size * n ≤ length s.now }
-    ensures { Leading s.now n result }
-{
-    let mut k: usize = 0;
-    while k < n {
-        if byte_of(s, k, 0) != INTERFACE_KIND as usize {
-            return k;
-        }
-        k += 1;
-    }
-    k
+    s.chunks_exact(block::BLOCK_SIZE)
+        .take_while(|b| b[0] == Interfaces::KIND)
+        .count()
 }
 
 // The entries in `count` blocks from block `first` on, of which all but the last are full with `each`.
-fn entries(s: &[u8], each: usize, first: usize, count: usize) -> usize
+#[tactic(auto, unfolding(crate::specs::Sheet::entries_in), using(crate::proofs::Counts::byte_in))]
+fn entries_in(s: &[u8], each: usize, first: usize, count: usize) -> usize
     requires { (block_size * (first + count) ≤ length s.now) × (each ≤ entries_room) × (first + count ≤ most_blocks) }
     ensures { result ≡ entries_in s.now each first count }
 {
     if count == 0 {
         return 0;
     }
-    each * (count - 1) + byte_of(s, first + (count - 1), 1)
+    let last = first + (count - 1);
+    each * (count - 1) + usize::from(s[block::BLOCK_SIZE * last + 1])
 }
 
-// Whether block `k` is an interface block that keeps its rules, where there are `m` of them.
-fn interface_block_at(f: Format, s: &[u8], k: usize, m: usize) -> bool
-    requires sound { Sound f }
-    requires block_size_in_bounds { (block_size * k + block_size ≤ length s.now) × (k < most_blocks) }
-    ensures { result ≡ interface_block_ok f s.now m k }
+// Whether block `k` holds such entries and keeps its rules, where block `stop` is the first behind those of its kind.
+fn in_run<E: Entries>(e: &E, s: &[u8], k: usize, stop: usize) -> bool
+    requires { (block_size * k + block_size ≤ length s.now) × (k < most_blocks) }
+    ensures { result ≡ in_run E.KIND (E.size e.now) (E.right e.now) s.now stop k }
 {
-    let a = block::BLOCK_SIZE * k;
-    let e = a + block::BLOCK_SIZE;
-    interface_block_ok(f, &s[a..e], k as u16, k + 1 == m)
+    let at = block::BLOCK_SIZE * k;
+    block_ok(e, &s[at..at + block::BLOCK_SIZE], k as u16, k + 1 == stop)
 }
 
-// Whether block `k` is a route block that keeps its rules, where there are so many interfaces.
-fn route_block_at(f: Format, s: &[u8], k: usize, interfaces: u16) -> bool
-    requires sound { Sound f }
-    requires block_size_in_bounds { (block_size * k + block_size ≤ length s.now) × (k < most_blocks) × (interfaces ≤ most_interfaces) }
-    ensures { result ≡ route_block_ok f s.now interfaces k }
+// Whether the blocks from `first` up to `stop` all do. The first that does not settles it. The blocks of each kind have a loop of their
+// own, which carries nothing along for the other.
+fn run_ok<E: Entries>(e: &E, s: &[u8], first: usize, stop: usize) -> bool
+    requires { (block_size * stop ≤ length s.now) × (stop ≤ most_blocks) }
+    ensures { IsTrue result ↔ ((k : ℕ) → first ≤ k → k < stop → in_run E.KIND (E.size e.now) (E.right e.now) s.now stop k ≡ true) }
 {
-    let a = block::BLOCK_SIZE * k;
-    let e = a + block::BLOCK_SIZE;
-    route_block_ok(
-        f,
-        &s[a..e],
-        k as u16,
-        k + 1 == s.len() / block::BLOCK_SIZE,
-        interfaces,
-    )
-}
-
-// Whether the first `m` blocks are interface blocks that keep their rules. The first that does not settles it.
-fn interface_blocks_ok(f: Format, s: &[u8], m: usize) -> bool
-    requires sound { Sound f }
-    requires m_bound { (m ≤ blocks s.now) × (blocks s.now ≤ most_blocks) }
-    ensures { result ≡ every (interface_block_ok f s.now m) m }
-{
-    let mut k: usize = 0;
-    while k < m {
-        if !interface_block_at(f, s, k, m) {
-            return false;
-        }
-        k += 1;
-    }
-    true
-}
-
-// Whether every block keeps its rules, where the first `m` do: those behind are route blocks. They have a loop of their own, which
-// carries nothing along for interface blocks.
-fn route_blocks_ok(f: Format, s: &[u8], m: usize, interfaces: u16) -> bool
-    requires sound { Sound f }
-    requires m_bound { (m ≤ blocks s.now) × (blocks s.now ≤ most_blocks) × (interfaces ≤ most_interfaces) }
-    requires true_value { true ≡ every (block_ok_with f s.now m interfaces) m }
-    ensures { result ≡ every (block_ok_with f s.now m interfaces) (blocks s.now) }
-{
-    let n = s.len() / block::BLOCK_SIZE;
-    let mut k = m;
-    while k < n {
-        if !route_block_at(f, s, k, interfaces) {
-            return false;
-        }
-        k += 1;
-    }
-    true
+    (first..stop).all(|k| in_run(e, s, k, stop))
 }
 
 // Whether every block keeps its rules, where there are `m` interface blocks and so many interfaces.
@@ -137,10 +79,8 @@ fn blocks_ok(f: Format, s: &[u8], m: usize, interfaces: u16) -> bool
     requires m_bound { (m ≤ blocks s.now) × (blocks s.now ≤ most_blocks) × (interfaces ≤ most_interfaces) }
     ensures { result ≡ every (block_ok_with f s.now m interfaces) (blocks s.now) }
 {
-    if !interface_blocks_ok(f, s, m) {
-        return false;
-    }
-    route_blocks_ok(f, s, m, interfaces)
+    let n = s.len() / block::BLOCK_SIZE;
+    run_ok(&Interfaces { f }, s, 0, m) && run_ok(&Routes::among(f, interfaces), s, m, n)
 }
 
 // Whether any bytes at all are a valid sheet, and what it holds. What is cheap to refuse comes first. The sizes are named here, and handed
@@ -153,11 +93,11 @@ pub fn check(s: &[u8]) -> Option<Layout>
         return None;
     }
     let n = s.len() / block::BLOCK_SIZE;
-    let m = interface_blocks(s, n);
+    let m = interface_blocks(s);
     if m == 0 {
         return None;
     }
-    let interfaces = entries(s, block::ENTRIES_ROOM / f.interface, 0, m);
+    let interfaces = entries_in(s, block::ENTRIES_ROOM / f.interface, 0, m);
     if interface::MOST_INTERFACES < interfaces {
         return None;
     }
@@ -167,6 +107,6 @@ pub fn check(s: &[u8]) -> Option<Layout>
     Some(Layout {
         blocks: m,
         interfaces,
-        routes: entries(s, block::ENTRIES_ROOM / f.route, m, n - m),
+        routes: entries_in(s, block::ENTRIES_ROOM / f.route, m, n - m),
     })
 }

@@ -5,11 +5,11 @@ use mathlib.Core.List.{List}
 use mathlib.Core.Logic.{⊎_elim}
 use mathlib.Core.Path.{◌≡◌, sym, ap, ◌∙◌}
 use native.Mathlib.Omega.{arith}
-use native.Mathlib.Nat.{zero-add, mul-add, mul-le-mul, mod-lt, mod-le, mod-add-mod, mod-eq_of_lt, div-le_self, div-eq_of_lt, div-add-mod', add-mul-div_right, le-div_iff_mul-le, div-lt_iff_lt-mul, eq-or-lt_of_le}
+use native.Mathlib.Nat.{zero-add, mul-add, mod-lt, mod-add-mod, mod-eq_of_lt, div-eq_of_lt, div-add-mod', add-mul-div_right, le-div_iff_mul-le, div-lt_iff_lt-mul, eq-or-lt_of_le}
 use lib.Dec.{eqb}
 use lib.ListN.{length}
 use borrow.Author.Tests.{ne_eqb}
-use Rattle.block.specs.Block.{block_size, entries_at, entries_room, used_in, entries_each, place_in_block}
+use Rattle.block.specs.Block.{block_size, entries_room, used_in, entries_each, place_in_block}
 use Rattle.block.proofs.Laws.{entries_fit, InUse, frame_filled}
 use Rattle.sheet.specs.Sheet.{sheet_block, entries_in}
 use Rattle.tables.specs.Tables.{place_of}
@@ -19,12 +19,6 @@ use Rattle.sheet.proofs.Laws.{Run}
 -- a block has room for an entry of a size that is not too large
 pub some_room : (size : ℕ) → 0 < size → size ≤ entries_room → 0 < entries_each size
 some_room size some most = omega (arith, (le-div_iff_mul-le {k = size} {x = 1} {y = entries_room} some).1 (omega arith))
-
--- the place of an entry with a low number is low
-pub place_low : (size i most : ℕ) → size ≤ entries_room → i ≤ most → place_of size 0 i ≤ block_size * most + (entries_at + entries_room * most)
-place_low size i most h k =
-    let j : i % entries_each size ≤ most = omega (arith, mod-le i (entries_each size)) in
-    omega (arith, div-le_self i (entries_each size), mul-le-mul h j)
 
 -- entries of one block stand side by side
 module _ (size i j : ℕ) (near : j < entries_each size - i % entries_each size) where

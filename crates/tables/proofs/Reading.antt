@@ -1,39 +1,30 @@
--- The tables as the code reads them: at the layout's places, and from interface to interface for who holds an address.
-use Prim.Native.Nat.{ℕ, suc, ◌+◌, ◌*◌, ◌-◌, ◌%◌, ◌≤◌, ◌<◌}
-use mathlib.Core.Bool.{true, cond}
+-- The tables as the code reads them: at the layout's places.
+use Prim.Native.Nat.{ℕ, ◌+◌, ◌*◌, ◌%◌, ◌≤◌, ◌<◌}
+use mathlib.Core.Bool.{true}
 use mathlib.Core.List.{List}
-use mathlib.Core.Path.{◌≡◌, sym, ap, ◌∙◌}
+use mathlib.Core.Path.{◌≡◌, ap, ◌∙◌}
 use native.Mathlib.Omega.{arith}
-use native.Mathlib.Nat.{sub-zero, mod-lt}
+use native.Mathlib.Nat.{mod-lt}
 use lib.Dec.{eqb}
 use lib.ListN.{length}
-use borrow.Author.Tests.{eq-eqb, ne_eqb}
 use Rattle.wire.specs.Numbers.{be16, be32}
 use Rattle.wire.proofs.Laws.{be-part}
-use Rattle.block.specs.Block.{block_size, switches_at, entries_room, entries_each}
+use Rattle.block.specs.Block.{block_size, switches_at, entries_each}
 use Rattle.format.specs.Sizes.{Sound, interface_fields, route_fields}
 use Rattle.format.specs.declared.Format.{Format}
-use Rattle.interface.specs.Interface.{most_interfaces, interface_at}
+use Rattle.interface.specs.Interface.{interface_at}
 use Rattle.interface.specs.declared.Interface.{Interface}
-use Rattle.sheet_block.specs.Every.{listed}
 use Rattle.sheet_block.specs.Rules.{prohibits}
 use Rattle.sheet.specs.Sheet.{most_blocks, interface_blocks, valid_sheet, counted, layout_of}
-use Rattle.tables.specs.Tables.{place_of, interface_of, route_place, route_of, interfaces_of, prohibited_of, holder_from, holder_of}
+use Rattle.tables.specs.Tables.{place_of, interface_of, route_place, route_of, prohibited_of}
 use Rattle.tables.specs.Inside.{routes_beside, Beside}
 use Rattle.sheet.specs.declared.Layout.{Layout}
-use Rattle.sheet.proofs.Laws.{valid, layout_valid, interface_few, route_valid}
-use Rattle.tables.proofs.Places.{some_room, place_low, in_row}
+use Rattle.sheet.proofs.Laws.{valid, layout_valid, route_valid}
+use Rattle.tables.proofs.Places.{some_room, in_row}
 use Rattle.tables.proofs.Entries.{interface_bytes_lem, route_bytes_lem, route_keeps}
-use Rattle.std.specs.Prelude.{Option, Some, None}
 
 module _ {F : Format} (sound : Sound F) where
   -- an interface's place
-  pub interface_each : 0 < entries_each F.interface
-  interface_each = some_room F.interface (omega arith) (omega arith)
-
-  pub interface_low : (i : ℕ) → i < most_interfaces → place_of F.interface 0 i ≤ (block_size + entries_room) * most_interfaces
-  interface_low i h = omega (arith, place_low F.interface i (most_interfaces - 1) (omega arith) (omega arith))
-
   pub place_within : (s : List ℕ) (i at : ℕ) → at ≡ place_of F.interface 0 i → i < (layout_of F s).interfaces → at + interface_fields ≤ length s
   place_within s i at e h = omega (arith, interface_bytes_lem sound s i h)
 
@@ -101,33 +92,7 @@ pub switches_read : (s : List ℕ) (x : ℕ) → x ≡ be16 s switches_at → eq
 unfolding prohibited_of
 switches_read s x e = rw (e, be-part 1 s 0 block_size switches_at (omega arith))
 
--- the holder of an address: the search among n interfaces, from interface i on
-pub searched : Format → List ℕ → ℕ → ℕ → ℕ → Option ℕ
-searched F s address i n = holder_from address i (listed (interface_of F s) i n)
-
-module _ (F : Format) (s : List ℕ) (n : ℕ) (all : n ≡ (layout_of F s).interfaces) where
-  pub few_there : (i : ℕ) → i < n → i < most_interfaces
-  few_there i h = interface_few F s i (rw all at h)
-
-  pub address_within : Sound F → (i at : ℕ) → i < n → at ≡ place_of F.interface 0 i → at + 4 ≤ length s
-  address_within sound i at h e = omega (arith, place_within sound s i at e (rw all at h))
-
-  pub search_start : (address : ℕ) → holder_of F s address ≡ searched F s address 0 (n - 0)
-  unfolding holder_of searched interfaces_of
-  search_start address = rw (sub-zero, all)
-
-module _ (F : Format) (s : List ℕ) (address i n : ℕ) (onwards : holder_of F s address ≡ searched F s address i (n - i)) where
-  pub search_none : n ≤ i → None ≡ holder_of F s address
-  unfolding searched holder_from listed
-  search_none h = let e : n - i ≡ 0 = omega arith in sym (rw e at onwards)
-
-  module _ (more : i < n) (x at : ℕ) (there : at ≡ place_of F.interface 0 i) (read : x ≡ be32 s at) where
-    step : holder_of F s address ≡ cond (eqb x address) (Some i) (searched F s address (i + 1) (n - (i + 1)))
-    unfolding searched holder_from listed interface_of interface_at
-    step = let e : n - i ≡ suc (n - (i + 1)) = omega arith in rw (read, there) (rw e at onwards)
-
-    pub search_found : x ≡ address → Some i ≡ holder_of F s address
-    search_found e = sym (rw (eq-eqb x address e) at step)
-
-    pub search_on : (x ≡ address → ⊥) → holder_of F s address ≡ searched F s address (i + 1) (n - (i + 1))
-    search_on e = rw (ne_eqb x address e) at step
+-- the address of an interface
+pub address_read : (F : Format) (s : List ℕ) (i at x : ℕ) → at ≡ place_of F.interface 0 i → x ≡ be32 s at → x ≡ (interface_of F s i).address
+unfolding interface_of interface_at
+address_read F s i at x e f = f ∙ rw e

@@ -1,17 +1,27 @@
 // The tables of a valid sheet, read.
 #![tactic(auto)]
 
-ghost use Rattle.std.specs.Prelude.{◌≡◌, ◌+◌, ◌*◌, ◌≤◌, ◌<◌, length};
-ghost use Rattle.block.specs.Block.{block_size};
+ghost use Rattle.std.specs.Prelude.{◌≡◌, ◌==◌, ◌+◌, ◌*◌, ◌^◌, ◌≤◌, ◌<◌, length};
+ghost use Rattle.block.specs.Block.{block_size, entries_room};
 ghost use Rattle.format.specs.Sizes.{Sound};
 ghost use Rattle.interface.specs.Interface.{most_interfaces};
 ghost use Rattle.sheet.specs.Sheet.{most_blocks, layout_of};
-ghost use Rattle.tables.specs.Tables.{place_of, prohibited_of, holder_of};
+ghost use Rattle.tables.specs.Tables.{place_of, interface_of, prohibited_of, holder_of};
 ghost use Rattle.tables.specs.Inside.{routes_beside};
 
 use format::Format;
 use sheet::Layout;
 use sheet_block::PROHIBITS;
+
+// Where entry `i` of a size begins: numbers run on over the blocks of its kind, from block `first` on.
+fn place(size: usize, first: usize, i: usize) -> usize
+    requires some { (0 < size) × (size ≤ entries_room) }
+    requires low { place_of size first i < 2 ^ 64 }
+    ensures { result ≡ place_of size first i }
+{
+    let each = block::ENTRIES_ROOM / size;
+    block::BLOCK_SIZE * (first + i / each) + (block::ENTRIES_AT + size * (i % each))
+}
 
 // Where interface `i` begins. It is read there (crate `interface`).
 pub fn interface_place(f: Format, i: usize) -> usize
@@ -19,8 +29,7 @@ pub fn interface_place(f: Format, i: usize) -> usize
     requires i_lt_most_interfaces { i < most_interfaces }
     ensures { result ≡ place_of f.interface 0 i }
 {
-    let each = block::ENTRIES_ROOM / f.interface;
-    block::BLOCK_SIZE * (i / each) + (block::ENTRIES_AT + f.interface * (i % each))
+    place(f.interface, 0, i)
 }
 
 // Where route `k` begins. It is read there (crate `route_entry`).
@@ -29,8 +38,7 @@ pub fn route_place(f: Format, l: Layout, k: usize) -> usize
     requires route_bound { place_of f.route l.blocks k + f.route ≤ block_size * most_blocks }
     ensures { result ≡ place_of f.route l.blocks k }
 {
-    let each = block::ENTRIES_ROOM / f.route;
-    block::BLOCK_SIZE * (l.blocks + k / each) + (block::ENTRIES_AT + f.route * (k % each))
+    place(f.route, l.blocks, k)
 }
 
 // How many routes stand side by side from route `k` on: to the end of its block, or of the routes. A search goes through them by
@@ -42,11 +50,7 @@ pub fn routes_beside(f: Format, l: Layout, k: usize) -> usize
 {
     let full = block::ENTRIES_ROOM / f.route;
     let left = l.routes - k;
-    let room = full - k % full;
-    if left < room {
-        return left;
-    }
-    room
+    left.min(full - k % full)
 }
 
 // Whether tracing is prohibited.
@@ -57,18 +61,20 @@ pub fn prohibited(s: &[u8]) -> bool
     wire::be16(s, block::SWITCHES_AT) == PROHIBITS
 }
 
+// Whether interface `i` holds an address.
+fn holds(f: Format, s: &[u8], i: usize, address: u32) -> bool
+    requires sound { Sound f }
+    requires there { i < (layout_of f s.now).interfaces }
+    ensures { result ≡ ((interface_of f s.now i).address == address) }
+{
+    wire::be32(s, interface_place(f, i)) == address
+}
+
 // The lowest interface that holds an address, of a sheet that has so many.
 pub fn holder(f: Format, s: &[u8], interfaces: usize, address: u32) -> Option<usize>
     requires sound { Sound f }
     requires interfaces_value { interfaces ≡ (layout_of f s.now).interfaces }
     ensures { result ≡ holder_of f s.now address }
 {
-    let mut i: usize = 0;
-    while i < interfaces {
-        if wire::be32(s, interface_place(f, i)) == address {
-            return Some(i);
-        }
-        i += 1;
-    }
-    None
+    (0..interfaces).find(|i| holds(f, s, *i, address))
 }

@@ -11,8 +11,8 @@ returns-then-not-size_ok c = search bad_size
 pub returns-then-m-eq0 : goal.returns-then-m-eq0
 returns-then-m-eq0 c = search no_interface_block
 
-pub entries-interfaces-requires : goal.entries-interfaces-requires
-entries-interfaces-requires c = search (few_first, each_few, ipv4_sound, rules)
+pub entries_in-interfaces-requires : goal.entries_in-interfaces-requires
+entries_in-interfaces-requires c = search (few_first, each_few, ipv4_sound, rules)
 
 pub returns-then-interfaces-gt-MOST_INTERFACES : goal.returns-then-interfaces-gt-MOST_INTERFACES
 returns-then-interfaces-gt-MOST_INTERFACES c = search many_interfaces
@@ -23,10 +23,10 @@ blocks_ok-requires c = search (few_blocks, ipv4_sound, rules)
 pub returns-then-not-blocks_ok : goal.returns-then-not-blocks_ok
 returns-then-not-blocks_ok c = search bad_block
 
-pub entries-requires : goal.entries-requires
-entries-requires c = search (few_rest, each_few, ipv4_sound, rules)
+pub entries_in-requires : goal.entries_in-requires
+entries_in-requires c = search (few_rest, each_few, ipv4_sound, rules)
 
 pub returns : goal.returns
 returns c =
-    laid_out _ _ c.size_ok.ensures (ap not c.if-not-size_ok.false) _ c.interface_blocks-m.ensures _ c.if-m-eq0.false _ c.entries-interfaces.ensures
-    c.if-interfaces-gt-MOST_INTERFACES.false _ c.blocks_ok.ensures _ c.entries.ensures (ap not c.if-not-blocks_ok.false)
+    laid_out _ _ c.size_ok.ensures (ap not c.if-not-size_ok.false) _ c.interface_blocks-m.ensures _ c.if-m-eq0.false _ c.entries_in-interfaces.ensures
+    c.if-interfaces-gt-MOST_INTERFACES.false _ c.blocks_ok.ensures _ c.entries_in.ensures (ap not c.if-not-blocks_ok.false)
