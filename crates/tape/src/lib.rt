@@ -2,7 +2,8 @@
 // and decimal numbers to standard output.
 #![tactic(auto)]
 
-ghost use Rattle.std.specs.Prelude.{◌+◌, ◌≤◌};
+ghost use Rattle.std.specs.Prelude.{◌≡◌, ◌+◌, ◌≤◌, slice_index, take};
+ghost use Rattle.wire.specs.Numbers.{be16, be32, be64};
 
 use std::io;
 use std::io::{BufReader, BufWriter, ErrorKind, Read, Write};
@@ -27,25 +28,30 @@ impl Command {
         }
     }
 
-    pub fn operation(&self) -> u8 {
+    pub fn operation(&self) -> u8
+        ensures { result ≡ slice_index self.now.bytes 0 }
+    {
         self.bytes[0]
     }
 
     // The numbers at place `at`.
     pub fn number16(&self, at: usize) -> u16
         requires { at + 2 ≤ 32 }
+        ensures { result ≡ be16 self.now.bytes at }
     {
         wire::be16(&self.bytes, at)
     }
 
     pub fn number32(&self, at: usize) -> u32
         requires { at + 4 ≤ 32 }
+        ensures { result ≡ be32 self.now.bytes at }
     {
         wire::be32(&self.bytes, at)
     }
 
     pub fn number64(&self, at: usize) -> u64
         requires { at + 8 ≤ 32 }
+        ensures { result ≡ be64 self.now.bytes at }
     {
         wire::be64(&self.bytes, at)
     }
@@ -103,14 +109,18 @@ pub fn play(rt: &HostRuntime, cases: &mut impl Cases) -> io::Result<()> {
 }
 
 // As many of an area's bytes as are asked for: never more than there are.
-pub fn lent(area: &[u8], n: u32) -> &[u8] {
-    let most = area.len();
-    &area[..most.min(n as usize)]
+pub fn lent(area: &[u8], n: u32) -> &[u8]
+    ensures { result.now ≡ take n area.now }
+{
+    let n = area.len().min(n as usize);
+    &area[..n]
 }
 
-pub fn lent_mut(area: &mut [u8], n: u32) -> &mut [u8] {
-    let most = area.len();
-    &mut area[..most.min(n as usize)]
+pub fn lent_mut(area: &mut [u8], n: u32) -> &mut [u8]
+    ensures { result.now ≡ take n area.old }
+{
+    let n = area.len().min(n as usize);
+    &mut area[..n]
 }
 
 // One number for all bytes of an area: the last one's, from 0 on, of 257 times the number before and the byte and 1, modulo a prime.
