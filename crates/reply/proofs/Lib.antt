@@ -11,3 +11,4 @@ mod Starts
 mod Copying
 mod Reading
 mod Answers
+mod Settled
