@@ -18,7 +18,7 @@ use Rattle.wire.proofs.Laws.{length-bytes, length-splice, byte_before, byte_afte
 use Rattle.recent.specs.Layout.{head_size, client_size, entry_size, entry_count, list_size, used, next, recent_place, well_formed}
 use Rattle.recent.specs.Inside.{Formed}
 use Rattle.recent.specs.Entries.{recent_entry, first_entries, is_of, some_is_of, seen_in, grown, moved_on, entered_in, empty}
-use Rattle.recent.proofs.Turns.{entry_fits}
+use Rattle.recent.proofs.Stores.{entry_fits}
 
 -- the rules of a well-formed list, one by one
 record Rules (s : List ℕ) : Type 0 where

@@ -1,4 +1,4 @@
 -- Laws that the crates above cite; and `Determined`: each promise leaves one answer.
-mod Turns
+mod Stores
 pub mod Laws
 pub mod Determined

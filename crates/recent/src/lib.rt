@@ -1,10 +1,10 @@
 // The recent list: which Queries were accepted, by client and id, in 196 lent bytes.
 #![tactic(auto)]
 
-ghost use Rattle.std.specs.Prelude.{◌≡◌, ◌+◌, ◌<◌, ◌≤◌, length, drop};
+ghost use Rattle.std.specs.Prelude.{◌≡◌, ◌+◌, ◌≤◌, length};
 ghost use Rattle.wire.specs.Parts.{all_zero};
-ghost use Rattle.recent.specs.Layout.{recent_place, entry_size, entry_count, well_formed};
-ghost use Rattle.recent.specs.Entries.{recent_entry, is_of, seen_in, grown, moved_on, entered_in};
+ghost use Rattle.recent.specs.Layout.{recent_place, entry_size, well_formed};
+ghost use Rattle.recent.specs.Entries.{recent_entry, is_of, seen_in, entered_in};
 ghost use Rattle.recent.specs.Inside.{Formed};
 
 // Bytes of the head, of an entry and of the client in it; the most entries; bytes of the list.
@@ -20,25 +20,20 @@ pub const LIST_SIZE: usize = HEAD_SIZE + ENTRY_SIZE * ENTRY_COUNT as usize;
 
 // Where entry k begins.
 fn recent_place(k: u8) -> usize
-    ensures { (result ≡ recent_place k) × (k < 256) }
+    ensures { result ≡ recent_place k }
 {
-    HEAD_SIZE + ENTRY_SIZE * (k as usize)
+    HEAD_SIZE + ENTRY_SIZE * usize::from(k)
 }
 
-// Whether every byte from `at` on is zero. There is no way out of the loop before its end, so that many bytes are taken in at once.
-fn zero_from(list: &[u8], at: usize) -> bool
-    ensures { result ≡ all_zero (drop at list.now) }
+// Whether every byte is zero. There is no way out before the last, so that many bytes are taken in at once.
+fn all_zero(bytes: &[u8]) -> bool
+    ensures { result ≡ all_zero bytes.now }
 {
-    let mut bits: u8 = 0;
-    let mut i = at;
-    while i < list.len() {
-        bits = bits | list[i];
-        i += 1;
-    }
-    bits == 0
+    bytes.iter().fold(0, |bits, byte| bits | *byte) == 0
 }
 
 // Whether a list is well-formed. The head is tested first: only a good one is worth the pass over the unused bytes.
+#[tactic(auto, unfolding(crate::specs::Layout::well_formed))]
 pub fn check(list: &[u8]) -> bool
     ensures { result ≡ well_formed list.now }
 {
@@ -52,10 +47,7 @@ pub fn check(list: &[u8]) -> bool
         & ((used == ENTRY_COUNT) | (next == used))
         & (list[2] == 0)
         & (list[3] == 0);
-    if head {
-        return zero_from(list, recent_place(used));
-    }
-    false
+    head && all_zero(&list[recent_place(used)..])
 }
 
 // Whether entry k is of this client and this id.
@@ -68,13 +60,12 @@ fn is_of(list: &[u8], k: u8, client: u32, id: u16) -> bool
 }
 
 // Whether client and id are in a well-formed list.
+#[tactic(auto, unfolding(crate::specs::Entries::seen_in, crate::specs::Entries::first_entries, crate::specs::Entries::some_is_of))]
 pub fn seen(list: &[u8], client: u32, id: u16) -> bool
     requires { Formed list.now }
     ensures { result ≡ seen_in list.now client id }
 {
-    let mut k = list[0];
-    while 0 < k {
-        k -= 1;
+    for k in (0..list[0]).rev() {
         if is_of(list, k, client, id) {
             return true;
         }
@@ -82,26 +73,8 @@ pub fn seen(list: &[u8], client: u32, id: u16) -> bool
     false
 }
 
-// How many entries are in use after one more is written.
-fn grown(used: u8) -> u8
-    ensures { result ≡ grown used }
-{
-    if used < ENTRY_COUNT {
-        used + 1
-    } else {
-        ENTRY_COUNT
-    }
-}
-
-// The entry that is written after entry k.
-fn moved_on(k: u8) -> u8
-    requires { k < entry_count }
-    ensures { result ≡ moved_on k }
-{
-    (k + 1) % ENTRY_COUNT
-}
-
 // Writes client and id into a well-formed list.
+#[tactic(auto, using(crate::proofs::Stores::entered_by))]
 pub fn enter(list: &mut [u8], client: u32, id: u16)
     requires { Formed list.old }
     ensures { list.new ≡ entered_in list.old client id }
@@ -111,6 +84,6 @@ pub fn enter(list: &mut [u8], client: u32, id: u16)
     let at = recent_place(next);
     wire::put32(list, at, client);
     wire::put16(list, at + CLIENT_SIZE, id);
-    list[0] = grown(used);
-    list[1] = moved_on(next);
+    list[0] = (used + 1).min(ENTRY_COUNT);
+    list[1] = (next + 1) % ENTRY_COUNT;
 }
