@@ -1,4 +1,4 @@
--- The proper last hop: by the route chosen, and by one pass over the interfaces of its would-forward map.
+-- The proper last hop: one pass over the interfaces of the route's would-forward map.
 use Prim.Native.Nat.{ℕ, zero, suc, ◌+◌, ◌*◌, ◌/◌, ◌%◌, ◌^◌, ◌≤◌, ◌<◌}
 use mathlib.Core.Bool.{Bool, true, false, ◌&&◌, cond}
 use mathlib.Core.List.{List}
@@ -12,7 +12,6 @@ use borrow.Author.Tests.{eq-eqb, ne_eqb, eqb-true, eqb-false}
 use Rattle.rows.proofs.Laws.{cond_cases}
 use Rattle.format.specs.Sizes.{Sound}
 use Rattle.format.specs.declared.Format.{Format}
-use Rattle.route_entry.specs.Route.{is_rp}
 use Rattle.prefix.specs.Prefix.{address_bits, same_prefix}
 use Rattle.interface.specs.Interface.{most_interfaces, is_multicast}
 use Rattle.interface.specs.declared.Interface.{Interface}
@@ -24,31 +23,11 @@ use Rattle.tables.specs.Tables.{interface_of}
 use Rattle.sheet.proofs.Laws.{interface_few}
 use Rattle.tables.proofs.Laws.{interface_keeps}
 use Rattle.last_hop.specs.Inside.{reaches_by}
-use Rattle.last_hop.specs.LastHop.{reaches, some_reaches, proper_last_hop}
-use Rattle.std.specs.Prelude.{Option, Some, None}
-
--- the proper last hop, by the route chosen
-module _ (interface : ℕ → Interface) (n : ℕ) (chosen : Option Route) (client : ℕ) where
-  pub hop_rp : (r : Route) (x : Bool) → chosen ≡ Some r → x ≡ is_rp r → x ≡ true → true ≡ proper_last_hop interface n chosen client
-  unfolding proper_last_hop
-  hop_rp r x found e rp = rw (found, ← e, rp)
-
-  pub hop_reached : (r : Route) (x y : Bool) → chosen ≡ Some r → x ≡ is_rp r → x ≡ false → y ≡ some_reaches interface r client n
-      → y ≡ proper_last_hop interface n chosen client
-  unfolding proper_last_hop
-  hop_reached r x y found e rp q = rw (found, ← e, rp) q
-
-  pub hop_none : chosen ≡ None → false ≡ proper_last_hop interface n chosen client
-  unfolding proper_last_hop
-  hop_none none = rw none
+use Rattle.last_hop.specs.LastHop.{reaches, some_reaches}
 
 -- an interface that is counted has a bit in every map
-module _ (F : Format) (s : List ℕ) (l : Layout) (layout : l ≡ layout_of F s) where
-  pub interface-counted : (k : ℕ) → k < l.interfaces → k < (layout_of F s).interfaces
-  interface-counted k h = rw layout at h
-
-  pub bit_there : (k : ℕ) → k < l.interfaces → k < most_interfaces
-  bit_there k h = interface_few F s k (interface-counted k h)
+pub bit_there : (F : Format) (s : List ℕ) (l : Layout) → l ≡ layout_of F s → (k : ℕ) → k < l.interfaces → k < most_interfaces
+bit_there F s l layout k h = interface_few F s k (rw layout at h)
 
 -- a bit is set or clear
 low_bit : (n : ℕ) (x y : Bool) → cond (eqb (n % 2) 0) false (x && y) ≡ x && eqb (n % 2) 1 && y
@@ -59,16 +38,10 @@ low_bit n true y =
 low_bit n false y = cond_cases (λ b. b ≡ false) (eqb (n % 2) 0) false false (λ z. refl) (λ z. refl)
 
 -- an interface by the lowest bit of what is left of the map
-module _ (F : Format) (s : List ℕ) (map client k : ℕ) where
-  pub bit_clear : map % 2 ≡ 0 → false ≡ reaches_by map client (interface_of F s k)
-  unfolding reaches_by
-  bit_clear e = rw (eq-eqb (map % 2) 0 e)
-
-  module _ (i : Interface) (read : i ≡ interface_of F s k) where
-    pub bit_set : (x y : Bool) → (map % 2 ≡ 0 → ⊥) → x ≡ is_multicast i → y ≡ same_prefix i.length i.address client
-        → x && y ≡ reaches_by map client (interface_of F s k)
-    unfolding reaches_by
-    bit_set x y e f g = rw (ne_eqb (map % 2) 0 e, f, g, read)
+pub bit_set : (F : Format) (s : List ℕ) (map client k : ℕ) (i : Interface) → i ≡ interface_of F s k → (x y : Bool) → (map % 2 ≡ 0 → ⊥) → x ≡ is_multicast i
+    → y ≡ same_prefix i.length i.address client → x && y ≡ reaches_by map client (interface_of F s k)
+unfolding reaches_by
+bit_set F s map client k i read x y e f g = rw (ne_eqb (map % 2) 0 e, f, g, read)
 
 pub interface_short_enough : {F : Format} → Sound F → (s : List ℕ) (k : ℕ) (i : Interface) → i ≡ interface_of F s k → k < (layout_of F s).interfaces → i.length ≤ address_bits
 interface_short_enough {F} sound s k i read h = rw read (interface_short F _ (interface_keeps sound s k h))
@@ -127,6 +100,3 @@ module _ (F : Format) (s : List ℕ) (r : Route) (client : ℕ) where
     map_over h z =
         rw (← layout)
         (sym (none_later l.interfaces k (omega arith) so_far (λ i m n. rw (none_left r.forward k i z m) (not_set (is_multicast (interface_of F s i)) _))))
-
-    pub none_reached : k ≤ l.interfaces → l.interfaces ≤ k → false ≡ some_reaches (interface_of F s) r client (layout_of F s).interfaces
-    none_reached h m = let q : k ≡ l.interfaces = omega arith in rw (← layout) (sym (rw q at so_far))

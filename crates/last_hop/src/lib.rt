@@ -13,6 +13,7 @@ use route_entry::Route;
 use sheet::Layout;
 
 // Whether interface `k` has the lowest bit of what is left of a map, is multicast, and has the client in its subnet.
+#[tactic(auto, unfolding(crate::specs::Inside::reaches_by))]
 fn reaches(f: Format, s: &[u8], map: u64, k: usize, client: u32) -> bool
     requires sound { Sound f }
     requires k_bound { k < (layout_of f s.now).interfaces }
@@ -31,8 +32,7 @@ fn some_reaches(f: Format, s: &[u8], l: Layout, r: Route, client: u32) -> bool
     requires l_value { l ≡ layout_of f s.now }
     ensures { result ≡ some_reaches (interface_of f s.now) r client (layout_of f s.now).interfaces }
 {
-    let mut k: usize = 0;
-    while k < l.interfaces {
+    for k in 0..l.interfaces {
         let map = r.forward >> k;
         if map == 0 {
             return false;
@@ -40,24 +40,19 @@ fn some_reaches(f: Format, s: &[u8], l: Layout, r: Route, client: u32) -> bool
         if reaches(f, s, map, k, client) {
             return true;
         }
-        k += 1;
     }
     false
 }
 
 // Whether a router with a valid sheet is the proper last hop for a client, by the route chosen.
+#[tactic(auto, unfolding(crate::specs::LastHop::proper_last_hop))]
 pub fn last_hop(f: Format, s: &[u8], l: Layout, c: Option<Route>, client: u32) -> bool
     requires sound { Sound f }
     requires l_value { l ≡ layout_of f s.now }
     ensures { result ≡ proper_last_hop (interface_of f s.now) (layout_of f s.now).interfaces c client }
 {
     match c {
-        Some(r) => {
-            if route_entry::is_rp(r) {
-                return true;
-            }
-            some_reaches(f, s, l, r, client)
-        }
+        Some(r) => route_entry::is_rp(r) || some_reaches(f, s, l, r, client),
         None => false,
     }
 }

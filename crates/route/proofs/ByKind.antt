@@ -79,11 +79,6 @@ module _ (source group : ℕ) (r : Route) (interfaces : ℕ) (kept : RouteKept i
       (eq-or-lt_of_le {n = source_and_group} {m = r.kind} kept.kind.0))
       (eq-or-lt_of_le {n = r.kind} {m = source_only} kept.kind.1)
 
--- the first way out of the tests, by a source alone
-pub by_source : (source group : ℕ) (r : Route) (kind : ℕ) (x : Bool) → kind ≡ r.kind → kind ≡ source_only → x ≡ of_source source r → x ≡ serves source group r
-unfolding serves
-by_source source group r kind x e k f = f ∙ rw (← e, k)
-
 -- the best so far with a route that does not serve, and with one that does
 module _ (s : List ℕ) (at interfaces source group : ℕ) (ok : route_ok interfaces (route_at s at) ≡ true) (x : Bool)
     (told : x ≡ serves source group (route_at s at)) (b : Best) where

@@ -62,7 +62,7 @@ module _ {F : Format} (s : List ℕ) (at count : ℕ) (beside : Beside F s at co
   pub beside_kept : (j : ℕ) → j < count → route_ok (layout_of F s).interfaces (route_at s (at + F.route * j)) ≡ true
   beside_kept j h = beside.kept j h
 
--- before the first turn, with one more, and after the last
+-- before the first turn, and with one more
 module _ (rank place : ℕ → ℕ) (before : Best) where
   pub best-start : before ≡ best_with rank place before 0
   unfolding best_with
@@ -72,9 +72,6 @@ module _ (rank place : ℕ → ℕ) (before : Best) where
       → b' ≡ best_with rank place before (j + 1)
   unfolding best_with
   best_more b b' j e f = f ∙ rw (add-one, ← e)
-
-  pub best-end : (b : Best) (j count : ℕ) → b ≡ best_with rank place before j → j ≤ count → count ≤ j → b ≡ best_with rank place before count
-  best-end b j count e h g = let q : j ≡ count = omega arith in rw q at e
 
 -- a block of routes more: they stand side by side
 module _ {F : Format} (sound : Sound F) (s : List ℕ) (l : Layout) (k : ℕ) (layout : l ≡ layout_of F s) (there : k < l.routes) (at count : ℕ)

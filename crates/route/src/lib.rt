@@ -16,7 +16,7 @@ use format::Format;
 use route_entry::Route;
 use sheet::Layout;
 
-// The lowest rank of kind 3.
+// The lowest rank of kind 3. Ranks are numbers, since each bit of a source prefix's length is one more.
 const SOURCE_RANK: usize = 1;
 
 // The rank of kind 2, above all of kind 3.
@@ -25,8 +25,9 @@ const GROUP_RANK: usize = 34;
 // What kind 1 ranks above.
 const BOTH_RANK: usize = 35;
 
-// The highest rank so far, and where in the sheet the first route that has it begins: two words, with no bytes between to be carried
-// along. The route is read there in the end, and no turn counts routes beside their places.
+// The highest rank so far, and where in the sheet the first route that has it begins. The route is read there in the end, and no turn
+// counts routes beside their places. Rank 0 is no route: an `Option` would be a word more for every turn to carry, and 5 instructions for a
+// route that serves.
 #[derive(Drop)]
 struct Best {
     rank: usize,
@@ -34,6 +35,7 @@ struct Best {
 }
 
 // Whether there is a source, and the source prefix of the route at a place matches it.
+#[tactic(auto, unfolding(crate::specs::Inside::of_source))]
 fn of_source(s: &[u8], at: usize, source: u32) -> bool
     requires { (at + route_fields ≤ length s.now) × ((route_at s.now at).length ≤ address_bits) }
     ensures { result ≡ of_source source (route_at s.now at) }
@@ -47,45 +49,37 @@ fn of_source(s: &[u8], at: usize, source: u32) -> bool
 }
 
 // Whether the route at a place serves a source and a group. Its kind says which fields are looked at; no other is read.
+#[tactic(auto, unfolding(crate::specs::Inside::serves))]
 fn serves(s: &[u8], at: usize, source: u32, group: u32) -> bool
     requires { (at + route_fields ≤ length s.now) × ((route_at s.now at).length ≤ address_bits) }
     ensures { result ≡ serves source group (route_at s.now at) }
 {
-    let kind = route_entry::kind_at(s, at);
-    if kind == route_entry::SOURCE_ONLY {
-        return of_source(s, at, source);
+    match route_entry::kind_at(s, at) {
+        route_entry::SOURCE_ONLY => of_source(s, at, source),
+        route_entry::GROUP_ONLY => route_entry::group_at(s, at) == group,
+        _ => (route_entry::group_at(s, at) == group) && of_source(s, at, source),
     }
-    if route_entry::group_at(s, at) != group {
-        return false;
-    }
-    if kind == route_entry::GROUP_ONLY {
-        return true;
-    }
-    of_source(s, at, source)
 }
 
 // The rank of a route that serves, by its kind and the length of its source prefix.
+#[tactic(auto, unfolding(crate::specs::Inside::rank_as))]
 fn rank(kind: u8, bits: usize) -> usize
     requires { bits ≤ address_bits }
     ensures { result ≡ rank_as kind bits }
 {
-    if kind == route_entry::GROUP_ONLY {
-        return GROUP_RANK + bits;
+    match kind {
+        route_entry::GROUP_ONLY => GROUP_RANK + bits,
+        route_entry::SOURCE_ONLY => SOURCE_RANK + bits,
+        _ => BOTH_RANK + bits,
     }
-    if kind == route_entry::SOURCE_ONLY {
-        return SOURCE_RANK + bits;
-    }
-    BOTH_RANK + bits
 }
 
 // The best so far, with the route at a place and its rank.
+#[tactic(auto, unfolding(crate::specs::Inside::better))]
 fn better(b: Best, rank: usize, at: usize) -> Best
     ensures { result ≡ better b rank at }
 {
-    if b.rank < rank {
-        return Best { rank, at };
-    }
-    b
+    if b.rank < rank { Best { rank, at } } else { b }
 }
 
 // The best so far, with the route at a place.
@@ -121,15 +115,13 @@ fn best_in(
     ensures { result ≡ best_with (rank_at s.now source group) (λ j. at + f.route * j) before count }
 {
     let mut b = before;
-    let mut j: usize = 0;
-    while j < count {
+    for j in 0..count {
         b = best_with(f, b, s, at + f.route * j, source, group);
-        j += 1;
     }
     b
 }
 
-// One pass over the routes of a valid sheet, block by block.
+// One pass over the routes of a valid sheet. Each turn goes on by the routes that its block has, so it is no `for`.
 fn best_of(f: Format, s: &[u8], l: Layout, source: u32, group: u32) -> Best
     requires sound { Sound f }
     requires l_value { l ≡ layout_of f s.now }

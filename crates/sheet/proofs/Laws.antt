@@ -3,6 +3,6 @@
 -- a valid sheet, rule by rule: its interface blocks and its route blocks are each a run of blocks of which all but the last are full
 pub use Rattle.sheet.proofs.Valid.{Valid, valid, Run, interface-run, route-run}
 -- what the check tells: whether it is valid, its counts, and at most 64 interfaces
-pub use Rattle.sheet.proofs.Told.{layout_valid, told_cases, valid_told, told_some, told_none, told_nothing, interfaces_few}
+pub use Rattle.sheet.proofs.Told.{layout_valid, valid_told, told_some, told_none, interfaces_few}
 -- an interface, and a route, that is counted: the sheet is valid
 pub use Rattle.sheet.proofs.Told.{interface_valid, interface_few, route_valid}

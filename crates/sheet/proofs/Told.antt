@@ -35,10 +35,6 @@ told_some F s l = told_cases F (λ (o : Option Layout). o ≡ Some l → (valid_
 pub told_none : (F : Format) (s : List ℕ) → told_of F s ≡ None → valid_sheet F s ≡ false
 told_none F s = told_cases F (λ (o : Option Layout). o ≡ None → valid_sheet F s ≡ false) s (λ e q. cc) (λ e q. e)
 
-pub told_nothing : (F : Format) (s : List ℕ) → told_of F s ≡ None → layout_of F s ≡ no_layout
-unfolding told_of layout_of
-told_nothing F s e = rw (told_none F s e)
-
 -- where something is counted the sheet is valid
 counts_valid : (F : Format) (s : List ℕ) (count : Layout → ℕ) (i : ℕ) → count no_layout ≡ 0 → i < count (layout_of F s) → valid_sheet F s ≡ true
 counts_valid F s count i none = layout_cases F (λ (l : Layout). i < count l → valid_sheet F s ≡ true) s (λ e h. e) (λ e h. absurd (omega arith))
