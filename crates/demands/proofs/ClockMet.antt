@@ -9,7 +9,7 @@ use lib.Dec.{ltb}
 use Rattle.rows.specs.Rows.{by_first}
 use Rattle.rows.proofs.Laws.{decided}
 use Rattle.clock.specs.declared.Clock.{Clock}
-use Rattle.unix.specs.declared.Units.{Units}
+use Rattle.unix.specs.Unix.{Units}
 use Rattle.clock.specs.Clock.{last_time, clock_of, time_for, start_of, advance_of, arrival_of}
 use Rattle.unix.specs.Unix.{last_second, second_nanos, clock_unix, refused_units, unix_of}
 use Rattle.clock.proofs.Laws.{accepts, always_sound, issues_rise, never_twice, lead_grows, lead_shrinks}

@@ -8,7 +8,7 @@ use denote.Ref.{Bor}
 use lib.ListN.{length}
 use Rattle.rows.specs.Rows.{NoneApplies}
 use Rattle.clock.specs.declared.Clock.{Clock}
-use Rattle.unix.specs.declared.Units.{Units}
+use Rattle.unix.specs.Unix.{Units}
 use Rattle.clock.specs.Clock.{start_of, advance_of, arrival_of}
 use Rattle.unix.specs.Unix.{unix_of}
 use Rattle.written.specs.declared.Block.{Block}
@@ -20,7 +20,7 @@ use Rattle.sending.proofs.Laws.{sent_on_fits}
 use Rattle.sending.specs.Answer.{sent_on, sent_home, sent_by}
 use Rattle.engine.specs.Step.{step_of}
 use Rattle.standard.specs.declared.Standard.{Standard}
-use Rattle.reply.specs.declared.Handed.{Handed}
+use Rattle.reply.specs.Reader.{Handed}
 use Rattle.reply.specs.declared.Reader.{Reader}
 use Rattle.reply.specs.Check.{Readable}
 use Rattle.standard.specs.Standard.{standard_of}

@@ -31,7 +31,7 @@ use Rattle.engine.specs.Step.{step_of}
 use Rattle.sending.proofs.Laws.{sent_cases, longer_as, room_most}
 use Rattle.engine.proofs.Laws.{taken_room}
 use Rattle.standard.specs.declared.Standard.{Standard}
-use Rattle.reply.specs.declared.Handed.{Handed}
+use Rattle.reply.specs.Reader.{Handed}
 use Rattle.reply.specs.declared.Reader.{Reader}
 use Rattle.reply.specs.Check.{Readable}
 use Rattle.standard.specs.Standard.{s_bit, standard_of, no_standard}

@@ -26,15 +26,12 @@ use Rattle.drops.specs.Drop.{lending_rows}
 use Rattle.drops.specs.Inside.{lent_rows}
 use Rattle.rows.specs.Rows.{by_first, first_of, NoneApplies, IsFirst}
 use Rattle.sending.specs.Answer.{sent_by}
-use Rattle.std.specs.Prelude.{Result}
-use Rattle.refusal.specs.declared.Refusal.{Refusal}
-use Rattle.sending.specs.declared.Answer.{Answer}
-use Rattle.engine.specs.Step.{Outcome, answer_of, outcome, answered_by, step_of}
+use Rattle.engine.specs.Step.{Outcome, outcome, answered_by, step_of}
 use Rattle.drops.proofs.Laws.{taken}
 use Rattle.engine.proofs.Laws.{drop_changes_nothing, taken_is_sent}
 use Rattle.sending.proofs.Laws.{sent_fits, sent-to, sent_noted}
 use Rattle.yard.specs.Walk.{not_sent, rows_for, sent_for}
-use Rattle.yard.specs.Inside.{Called}
+use Rattle.yard.specs.Inside.{CalledBy}
 use Rattle.format.specs.declared.Format.{Format}
 use Rattle.format.specs.Sizes.{Sound, output_size}
 use Rattle.written.specs.Inside.{Writes}
@@ -76,13 +73,13 @@ module _ {F : Format} (sound : Sound F) (writes : Writes F) where
     unfolding sent_for
     sent_taken none = none_is not_sent (sent_by F a time sheet) (rows_for F sheet a) none
 
-  module _ (sheet : List ℕ) (time : ℕ) (a : Arrival) (sent recent s1 n1 : List ℕ) (result : Result Answer Refusal) (long : length sent ≡ output_size)
-      (meets : outcome (answer_of result) recent s1 n1 ≡ step_of F a time sheet empty sent blank) where
+  module _ (sheet : List ℕ) (time : ℕ) (a : Arrival) (sent recent s1 n1 : List ℕ) (answer : ℕ) (long : length sent ≡ output_size)
+      (meets : outcome answer recent s1 n1 ≡ step_of F a time sheet empty sent blank) where
     called_dropped : (n : ℕ) → IsFirst (rows_for F sheet a) n → (x y : ℕ) → x ≡ be16 n1 0 → y ≡ be32 n1 2
-        → Called (sent_for F sheet time a) sent (record { answer = result; length = x; to = y }) s1
+        → CalledBy (sent_for F sheet time a) sent answer x y s1
     unfolding be splice
     called_dropped n first x y e f =
-        let is : outcome (answer_of result) recent s1 n1 ≡ outcome n empty sent blank = meets ∙ drop_changes_nothing F a time sheet empty sent blank n (rw long first) in
+        let is : outcome answer recent s1 n1 ≡ outcome n empty sent blank = meets ∙ drop_changes_nothing F a time sheet empty sent blank n (rw long first) in
         let note : n1 ≡ blank = ap (λ (o : Outcome). o.note) is in
         rw (sent-dropped sheet time a n first)
         (record {
@@ -93,11 +90,11 @@ module _ {F : Format} (sound : Sound F) (writes : Writes F) where
         })
 
     called_answered : NoneApplies (rows_for F sheet a) → (x y : ℕ) → x ≡ be16 n1 0 → y ≡ be32 n1 2
-        → Called (sent_for F sheet time a) sent (record { answer = result; length = x; to = y }) s1
+        → CalledBy (sent_for F sheet time a) sent answer x y s1
     called_answered none x y e f =
         let k = sent_by F a time sheet in
         let t = taken sound a sheet empty output_size note_size none in
-        let is : outcome (answer_of result) recent s1 n1 ≡ answered_by k (header_of a.message) empty sent blank =
+        let is : outcome answer recent s1 n1 ≡ answered_by k (header_of a.message) empty sent blank =
         meets ∙ taken_is_sent F a time sheet empty sent blank (rw long none) in
         let note : n1 ≡ splice blank 0 (note_bytes k.note) = ap (λ (o : Outcome). o.note) is in
         let fits : 0 + length (note_bytes k.note) ≤ length blank = omega (arith, note_length k.note) in
@@ -118,7 +115,7 @@ module _ {F : Format} (sound : Sound F) (writes : Writes F) where
         })
 
     -- the call of the engine
-    pub called : (x y : ℕ) → x ≡ be16 n1 0 → y ≡ be32 n1 2 → Called (sent_for F sheet time a) sent (record { answer = result; length = x; to = y }) s1
+    pub called : (x y : ℕ) → x ≡ be16 n1 0 → y ≡ be32 n1 2 → CalledBy (sent_for F sheet time a) sent answer x y s1
     called x y e f =
         ⊎_elim (λ first. called_dropped (first_of (rows_for F sheet a)) first x y e f) (λ none. called_answered none x y e f)
         (first_or_none (rows_for F sheet a))

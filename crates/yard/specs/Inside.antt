@@ -41,12 +41,16 @@ pub record CanEnter (F : Format) (y : Yard) : Type 0 where
   pub timed : routers_in y.sheets.now ≤ length y.times.now
   pub counted : Counted F y.sheets.now y.interfaces (routers_in y.sheets.now)
 
--- a call of the engine: its answer, and the length and the destination of what it sent
-pub record Called (sent : Sent) (old : List ℕ) (r : Call) (new : List ℕ) : Type 0 where
-  pub answer : answer_of r.answer ≡ sent.answer
-  pub long : r.length ≡ length sent.message
-  pub to : r.to ≡ sent.note.destination
+-- a call of the engine, by numbers: its answer, and the length and the destination of what it sent
+pub record CalledBy (sent : Sent) (old : List ℕ) (a l d : ℕ) (new : List ℕ) : Type 0 where
+  pub answer : a ≡ sent.answer
+  pub long : l ≡ length sent.message
+  pub to : d ≡ sent.note.destination
   pub sends : new ≡ splice old 0 sent.message
+
+-- and as code has it
+abbrev pub Called : Sent → List ℕ → Call → List ℕ → Type 0
+Called sent old r new = CalledBy sent old (answer_of r.answer) r.length r.to new
 
 -- the end, or 100 where a message goes on
 abbrev pub end_told : Result Onward End → ℕ
