@@ -1,4 +1,3 @@
 -- Laws that the crates above cite; and `Determined`: each promise leaves one answer.
-mod Rules
 pub mod Laws
 pub mod Determined

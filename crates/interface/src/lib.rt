@@ -64,17 +64,15 @@ pub fn is_boundary(i: Interface) -> bool
 }
 
 // Whether the interface whose bytes begin at `at` keeps every rule on it: what no rule looks at is not read.
+#[tactic(auto, unfolding(crate::specs::Interface::interface_at, crate::specs::Interface::interface_ok))]
 pub fn interface_ok(f: Format, s: &[u8], at: usize) -> bool
     requires { at + interface_fields ≤ length s.now }
     ensures { result ≡ interface_ok f (interface_at s.now at) }
 {
-    if !address::unicast(wire::be32(s, at)) {
-        return false;
-    }
-    (1 <= s[at + 4])
-        & (s[at + 4] <= ADDRESS_BITS)
-        & (s[at + 5] <= MULTICAST_FLAG | BOUNDARY_FLAG)
-        & (s[at + 7] == 0)
-        & (f.mtu <= wire::be16(s, at + 24))
-        & (wire::be16(s, at + 26) == 0)
+    address::unicast(wire::be32(s, at))
+        && (1..=ADDRESS_BITS).contains(&s[at + 4])
+            & (s[at + 5] <= MULTICAST_FLAG | BOUNDARY_FLAG)
+            & (s[at + 7] == 0)
+            & (f.mtu <= wire::be16(s, at + 24))
+            & (wire::be16(s, at + 26) == 0)
 }
