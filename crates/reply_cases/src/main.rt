@@ -3,6 +3,7 @@
 #![tactic(auto)]
 
 use link::Link;
+use refusal::Refusal;
 use reply::Reader;
 use standard::Standard;
 use std::io::Write;
@@ -18,7 +19,7 @@ const SECOND: usize = 1600;
 const WRITTEN: usize = 900;
 
 // More blocks than a Reply has, so that a reader that does not stop is seen.
-const TURNS: u32 = 100;
+const TURNS: usize = 100;
 
 #[derive(Drop)]
 struct Areas {
@@ -55,38 +56,21 @@ impl fmt::Display for ShownLink {
     }
 }
 
-// The next block of a reader.
-fn next(reader: &mut Reader<'_>) -> Option<Standard> {
-    let handed = reply::next(reader);
-    if handed.found {
-        Some(handed.block)
-    } else {
-        None
-    }
-}
-
-// The number of what refuses a Reply, and of what refuses two; 0 where they can be read.
-fn refusal_of(reply: &[u8]) -> u32 {
-    reply::check(reply)
-}
-
-fn refusal_of_both(first: &[u8], second: &[u8]) -> u32 {
-    loss::check(first, second)
+// Writes the number of what refuses, 0 where nothing does.
+fn tell_refusal(checked: Result<(), Refusal>, out: &mut impl Write) -> io::Result<()> {
+    writeln!(out, " {}", checked.map_or_else(u32::from, |_| 0))
 }
 
 // Reads a Reply whole, and writes a line for each block. One that is refused is read too: a block of it would be written, and fail
 // the case.
 fn read(reply: &[u8], out: &mut impl Write) -> io::Result<()> {
-    let number = refusal_of(reply);
-    writeln!(out, " {number}")?;
+    let checked = reply::check(reply);
+    tell_refusal(checked, out)?;
     let mut reader = reply::open(reply);
-    for _ in 0..TURNS {
-        let Some(block) = next(&mut reader) else {
-            break;
-        };
+    for block in reader.by_ref().take(TURNS) {
         writeln!(out, " block {}", ShownBlock(block))?;
     }
-    if number == 0 {
+    if checked.is_ok() {
         read_on(&mut reader, out)?;
     }
     Ok(())
@@ -95,7 +79,7 @@ fn read(reply: &[u8], out: &mut impl Write) -> io::Result<()> {
 // Calls three times more. Nothing is to be handed out: a block would be written, and fail the case.
 fn read_on(reader: &mut Reader<'_>, out: &mut impl Write) -> io::Result<()> {
     for _ in 0..3 {
-        match next(reader) {
+        match reader.next() {
             Some(block) => writeln!(out, " block {}", ShownBlock(block))?,
             None => write!(out, " none")?,
         }
@@ -103,35 +87,26 @@ fn read_on(reader: &mut Reader<'_>, out: &mut impl Write) -> io::Result<()> {
     writeln!(out)
 }
 
-// The next blocks of two readers.
-fn next_of_both(first: &mut Reader<'_>, second: &mut Reader<'_>) -> Option<(Standard, Standard)> {
-    Some((next(first)?, next(second)?))
-}
-
-// Writes a line for each link of two Replies over one path.
-fn print_links(first: &[u8], second: &[u8], out: &mut impl Write) -> io::Result<()> {
-    let mut one = reply::open(first);
-    let mut two = reply::open(second);
-    let Some(mut near) = next_of_both(&mut one, &mut two) else {
-        return Ok(());
-    };
-    for _ in 0..TURNS {
-        let Some(far) = next_of_both(&mut one, &mut two) else {
-            break;
-        };
-        let count = link::count_of(near.0, far.0);
-        let count2 = link::count_of(near.1, far.1);
-        writeln!(out, " link {}", ShownLink(link::link_of(count, count2)))?;
-        near = far;
+// Writes a line for each link of two Replies, if they are over one path.
+fn links(first: &[u8], second: &[u8], out: &mut impl Write) -> io::Result<()> {
+    let checked = loss::check(first, second);
+    tell_refusal(checked, out)?;
+    if checked.is_ok() {
+        print_links(first, second, out)?;
     }
     Ok(())
 }
 
-fn links(first: &[u8], second: &[u8], out: &mut impl Write) -> io::Result<()> {
-    let number = refusal_of_both(first, second);
-    writeln!(out, " {number}")?;
-    if number == 0 {
-        print_links(first, second, out)?;
+fn print_links(first: &[u8], second: &[u8], out: &mut impl Write) -> io::Result<()> {
+    let mut pairs = reply::open(first).zip(reply::open(second));
+    let Some(mut near) = pairs.next() else {
+        return Ok(());
+    };
+    for far in pairs.take(TURNS) {
+        let count = link::count_of(near.0, far.0);
+        let count2 = link::count_of(near.1, far.1);
+        writeln!(out, " link {}", ShownLink(link::link_of(count, count2)))?;
+        near = far;
     }
     Ok(())
 }

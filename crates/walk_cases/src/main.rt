@@ -2,10 +2,12 @@
 // label, 1 to 3 change the yard, the message and the output, 4 sets a router's time, and 5 walks.
 #![tactic(auto)]
 
+use drops::Arrival;
+use refusal::Refusal;
 use std::io;
 use std::io::Write;
 use tape::{Cases, Command, Counts};
-use yard::Walked;
+use yard::{Visit, Walked};
 
 // Areas longer than what is lent from them, so that their tails are seen to stay. The yard's has room for more than 32 sheets.
 const YARD: usize = 34304;
@@ -27,26 +29,35 @@ struct Areas {
 
 impl Areas {
     // Walks with the first bytes and times of the areas, as many as the command says. There may be fewer times than that.
-    fn walk(&mut self, command: &Command) -> Option<Walked> {
+    fn walk(&mut self, command: &Command) -> Option<Result<Walked, Refusal>> {
         let times = self.times.get(..usize::from(command.number16(2)))?;
+        let start = Visit {
+            router: command.number32(12) as usize,
+            arrival: Arrival {
+                message: tape::lent(&self.message, command.number16(8).into()),
+                destination: command.number32(20),
+                receiving: command.number32(16),
+                ttl: command.number32(24),
+            },
+        };
         Some(yard::walk(
             tape::lent(&self.yard, command.number32(4)),
             times,
-            tape::lent(&self.message, command.number16(8).into()),
-            command.number32(12),
-            command.number32(16),
-            command.number32(20),
-            command.number32(24),
+            start,
             tape::lent_mut(&mut self.output, command.number16(10).into()),
         ))
     }
 
     // Walks, and writes the answer and a digest of the output's area.
     fn call(&mut self, command: &Command, out: &mut impl Write) -> io::Result<()> {
-        if let Some(w) = self.walk(command) {
-            self.ends.count(w.end);
-            write!(out, " -> {} {} {} {}", w.end, w.steps, w.blocks, w.length)?;
-            writeln!(out, " {}", tape::digest(&self.output))?;
+        if let Some(told) = self.walk(command) {
+            let (end, steps, blocks, length) = match told {
+                Ok(w) => (u32::from(w.end), w.steps, w.blocks, w.length),
+                Err(refusal) => (u32::from(refusal), 0, 0, 0),
+            };
+            self.ends.count(end);
+            let digest = tape::digest(&self.output);
+            writeln!(out, " -> {end} {steps} {blocks} {length} {digest}")?;
         }
         Ok(())
     }
