@@ -47,10 +47,9 @@ use Rattle.demands.proofs.WalkMet.{blank-length, mapped_at, as_sent, walk_meets}
 use Rattle.format.specs.Sizes.{ipv4, ipv4_sound, least_room, output_size}
 use Rattle.written.proofs.Laws.{ipv4_writes}
 use Rattle.view.specs.Room.{room_for}
-use Rattle.std.specs.Prelude.{Some}
 
 -- a Reply by an accepted message's header
-reply_known : (m s : List ℕ) → Accepted ipv4 m → header_of s ≡ retyped reply (header_of m) → length m ≤ length s → length s ≤ most → right_form ipv4 s ≡ true → Some s
+reply_known : (m s : List ℕ) → Accepted ipv4 m → header_of s ≡ retyped reply (header_of m) → length m ≤ length s → length s ≤ most → right_form ipv4 s ≡ true → Known s
 reply_known m s a h low high form = record { low = omega (arith, a.low); high = high; kind = rw h; header = rw h a.header; form = form }
 
 -- what is sent home for an accepted message can be read
