@@ -1,13 +1,12 @@
 -- The frame of a block as the code looks at it: a law for each way out.
-use Rattle.std.proofs.Common.{◌≡◌, ℕ, ◌*◌, ◌/◌, ◌%◌, ◌<◌, ◌≤◌, Bool, true, false, not, ◌&&◌, ◌||◌, eqb, ltb, List, length, sym, refl, ap, ◌∙◌, arith}
-use borrow.Author.Tests.{not-true, not-false}
+use Rattle.std.proofs.Common.{◌≡◌, ℕ, ◌*◌, ◌/◌, ◌%◌, ◌<◌, Bool, true, false, not, ◌&&◌, ◌||◌, eqb, ltb, List, length, sym, ap, ◌∙◌, arith}
+use borrow.Author.Tests.{not-false}
 use Rattle.rows.proofs.Laws.{neither_of}
 use Rattle.wire.specs.Numbers.{byte_at}
 use Rattle.wire.specs.Parts.{all_zero}
 use Rattle.block.specs.Sum.{right_sum, sum_ok}
-use Rattle.block.specs.Block.{block_size, entries_room, kind_of, used_in, block_number, place_in_block, entries_each, unused_of, filled_ok, frame_ok}
+use Rattle.block.specs.Block.{block_size, kind_of, used_in, block_number, place_in_block, entries_each, unused_of, filled_ok, frame_ok}
 use Rattle.block.specs.Inside.{word_size, block_words, switches_word, words, zero_from, Alike}
-use Rattle.block.proofs.Laws.{entries_fit, filled}
 use Rattle.block.proofs.Sums.{sum_alike}
 use Rattle.block.proofs.Unused.{none_left}
 
@@ -28,21 +27,7 @@ module _ (b : List ℕ) (kind size number used n : ℕ) (partly full : Bool) (eu
   told : full ≡ filled_ok (entries_each size) partly (used_in b)
   told = ef ∙ ap (filled_ok (entries_each size) partly) eu
 
-  pub wrong_head : seen ≡ true → false ≡ frame_ok kind size number partly b
-  unfolding frame_ok
-  wrong_head e = rw (← en, ← told) (by_flags (eqb (kind_of b) kind) (eqb n number) full (all_zero (unused_of size b)) (sum_ok b) e) where
-    by_flags : (k m f z s : Bool) → (not k || not m || not f) ≡ true → false ≡ (k && f && m && z && s)
-    by_flags false m f z s e = refl
-    by_flags true m false z s e = refl
-    by_flags true false true z s e = refl
-    by_flags true true true z s e = let w : ◌≡◌ {A = ℕ} 0 1 = cc in absurd (omega arith)
-
   module _ (right : seen ≡ false) where
-    pub in_use_fit : 0 < size → size * used ≤ entries_room
-    in_use_fit some =
-        let p = neither_of (not (eqb (kind_of b) kind) || not (eqb n number)) (not full) right in
-        entries_fit size used some (filled (entries_each size) partly used (sym ef ∙ not-false full p.1)).most
-
     -- the rest: the unused bytes, and the sum
     as_rest : frame_ok kind size number partly b ≡ (all_zero (unused_of size b) && sum_ok b)
     unfolding frame_ok
@@ -55,8 +40,8 @@ module _ (b : List ℕ) (kind size number used n : ℕ) (partly full : Bool) (eu
       unused : all_zero (unused_of size b) ≡ zero_from b from
       unused = let place : word_size * from ≡ place_in_block size used = ap (λ (w : ℕ). word_size * w) ew ∙ ends size used whole in rw (place, eu)
 
-      pub wrong_rest : (z : Bool) → z ≡ zero_from b from → not z ≡ true → false ≡ frame_ok kind size number partly b
-      wrong_rest z e h = rw (as_rest, unused, ← e, not-true z h)
+      pub wrong_rest : (z : Bool) → z ≡ zero_from b from → z ≡ false → z ≡ frame_ok kind size number partly b
+      wrong_rest z e h = rw (as_rest, unused, ← e, h)
 
       module _ (bytes : (i : ℕ) → byte_at b i < 256) where
         -- no word is unused
@@ -65,7 +50,7 @@ module _ (b : List ℕ) (kind size number used n : ℕ) (partly full : Bool) (eu
         framed_full sum x e es ex = rw (as_rest, unused, e, none_left b, sum_alike b bytes sum long es) ex
 
         -- those that are are zero
-        pub framed_partly : (z : Bool) (sum : ℕ) (x : Bool) → z ≡ zero_from b from → not z ≡ false → Alike sum (words b block_words)
+        pub framed_partly : (z : Bool) (sum : ℕ) (x : Bool) → z ≡ zero_from b from → z ≡ true → Alike sum (words b block_words)
             → x ≡ (ltb 0 sum && eqb (sum % right_sum) 0)
             → x ≡ frame_ok kind size number partly b
-        framed_partly z sum x ez h es ex = let zeros : zero_from b from ≡ true = sym ez ∙ not-false z h in rw (as_rest, unused, zeros, sum_alike b bytes sum long es) ex
+        framed_partly z sum x ez h es ex = let zeros : zero_from b from ≡ true = sym ez ∙ h in rw (as_rest, unused, zeros, sum_alike b bytes sum long es) ex

@@ -137,7 +137,7 @@ fn filled_ok(each: usize, partly: bool, used: usize) -> bool
 // Whether a block keeps its frame. What one look decides comes first. Where the entries in use reach the switches no word is
 // unused; else those that are must be zero. The sum is asked for in two places: so the compiler leaves it a function of its own,
 // and puts the rest into its callers, where the size is known.
-#[tactic(auto, using(crate::proofs::Frames::wrong_head, crate::proofs::Frames::in_use_fit, crate::proofs::Frames::wrong_rest))]
+#[tactic(auto, using(crate::proofs::Laws::entries_fit, crate::proofs::Frames::wrong_rest), unfolding(crate::specs::Block::frame_ok))]
 pub fn frame_ok(b: &[u8], kind: u8, size: usize, number: u16, partly: bool) -> bool
     requires b_len { length b.now ≡ block_size }
     requires size_nonzero { (0 < size) × (size % word_size ≡ 0) }
@@ -152,8 +152,5 @@ pub fn frame_ok(b: &[u8], kind: u8, size: usize, number: u16, partly: bool) -> b
     if end == SWITCHES_WORD {
         return right_sum(sum_block(b));
     }
-    if !zero_from(b, end) {
-        return false;
-    }
-    right_sum(sum_block(b))
+    zero_from(b, end) && right_sum(sum_block(b))
 }

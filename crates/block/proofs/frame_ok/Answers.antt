@@ -9,7 +9,7 @@ returns-then-end-eq-SWITCHES_WORD c =
     let bytes : (i : ℕ) → byte_at c.args.b.now i < 256 = λ i. (c.type_inv.b i).fits in
     search (framed_full, bytes)
 
-pub returns : goal.returns
-returns c =
+pub returns-then-zero_from : goal.returns-then-zero_from
+returns-then-zero_from c =
     let bytes : (i : ℕ) → byte_at c.args.b.now i < 256 = λ i. (c.type_inv.b i).fits in
     search (framed_partly, bytes)
