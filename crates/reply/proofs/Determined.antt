@@ -16,6 +16,7 @@ use Rattle.reply.specs.Reader.{Handed, handed, handed_at, Opens, Hands}
 use Rattle.reply.specs.Inside.{left_of}
 use Rattle.reply.proofs.check.Reads as check
 use Rattle.reply.proofs.next_at.Reads as next_at
+use Rattle.reply.proofs.next_known.Reads as next_known
 use Rattle.reply.proofs.next_from.Reads as next_from
 use Rattle.reply.proofs.copy_next.Reads as copy_next
 use Rattle.reply.proofs.start_of.Reads as start_of
@@ -26,6 +27,9 @@ check_determined κs a x y e f p q = one_answer x y (both_are p q)
 
 pub next_at_determined : (κs : _) (a : _) (x y : _) (e f : _) → next_at.Post κs a x e → next_at.Post κs a y f → x ≡ y
 next_at_determined κs a x y e f = both_are
+
+pub next_known_determined : (κs : _) (a : _) (x y : _) (e f : _) → next_known.Post κs a x e → next_known.Post κs a y f → x ≡ y
+next_known_determined κs a x y e f p q = both_are p.0 q.0
 
 -- a block and the place behind it, or none, by what is handed out
 one_handed : (place : ℕ) (x y : Option (Standard × ℕ)) → handed place x ≡ handed place y → x ≡ y
@@ -72,12 +76,12 @@ reader_next_determined r x y left also p q =
 pub known_blocks_determined : (κs : _) (a : _) (x y : _) (e f : _) → known_blocks.Post κs a x e → known_blocks.Post κs a y f → left_of x ≡ left_of y
 known_blocks_determined κs a x y e f p q = both_are p.1 q.1
 
-pub next_known_determined : (blocks : KnownBlocks) (x y : Option (Bor (List ℕ))) (left also : KnownBlocks)
+pub known_next_determined : (blocks : KnownBlocks) (x y : Option (Bor (List ℕ))) (left also : KnownBlocks)
     → YieldsFirstRef left_of blocks x left → YieldsFirstRef left_of blocks y also
     → (option_map (λ (b : Bor (List ℕ)). b.now) x ≡ option_map (λ (b : Bor (List ℕ)). b.now) y) × (left_of left ≡ left_of also)
-next_known_determined blocks None None left also p q = (refl, both_are p.1 q.1)
-next_known_determined blocks None (Some y) left also p q = let e : [] ≡ y.now ∷ left_of also = sym p.0 ∙ q in cc
-next_known_determined blocks (Some x) None left also p q = let e : [] ≡ x.now ∷ left_of left = sym q.0 ∙ p in cc
-next_known_determined blocks (Some x) (Some y) left also p q =
+known_next_determined blocks None None left also p q = (refl, both_are p.1 q.1)
+known_next_determined blocks None (Some y) left also p q = let e : [] ≡ y.now ∷ left_of also = sym p.0 ∙ q in cc
+known_next_determined blocks (Some x) None left also p q = let e : [] ≡ x.now ∷ left_of left = sym q.0 ∙ p in cc
+known_next_determined blocks (Some x) (Some y) left also p q =
     let e : x.now ∷ left_of left ≡ y.now ∷ left_of also = sym p ∙ q in
     (ap (λ (l : List (List ℕ)). Some (get_or l 0 [])) e, ap (λ (l : List (List ℕ)). drop 1 l) e)

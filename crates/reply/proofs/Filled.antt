@@ -2,13 +2,14 @@
 use Prim.Native.Nat.{ℕ, ◌+◌, ◌-◌, ◌≤◌, ◌<◌}
 use mathlib.Core.Path.{◌≡◌, refl, sym, ap, ◌∙◌}
 use mathlib.Core.Bool.{true, false}
-use mathlib.Core.List.{List, [], ◌∷◌, map}
+use mathlib.Core.List.{List, [], ◌∷◌}
 use mathlib.Core.Logic.{⊎_elim}
 use native.Mathlib.Omega.{arith}
 use native.Mathlib.Nat.{add_assoc, add-zero}
 use borrow.Author.Tests.{eq-eqb, ne_eqb}
 use lib.ListN.{length, get_or, drop, length-take, length-drop}
 use lib.Seq.{get_or-drop}
+use Rattle.std.specs.Prelude.{Option, Some, None, slice_get}
 use Rattle.wire.specs.Numbers.{byte_at, be16}
 use Rattle.wire.specs.Parts.{part}
 use Rattle.wire.proofs.Laws.{be-drop}
@@ -16,9 +17,8 @@ use Rattle.rows.proofs.Laws.{decided}
 use Rattle.header.specs.Format.{header_size, standard, standard_size}
 use Rattle.message.specs.Blocks.{begins, blocks_of, total_size, blocks_end}
 use Rattle.message.specs.Inside.{Head, block_at, standards_from}
-use Rattle.message.proofs.Laws.{there, begun, no_blocks_lem, blocks_on, standards_more, standards_same, size_standard, first_inside, first_parts}
-use Rattle.reply.specs.declared.KnownBlocks.{KnownBlocks}
-use Rattle.reply.specs.Inside.{FillsFrom, blocks_left, left_of}
+use Rattle.message.proofs.Laws.{there, begun, no_blocks_lem, blocks_on, standards_more, standards_same, first_inside, first_parts}
+use Rattle.reply.specs.Inside.{first_or, FillsFrom, blocks_left}
 use Rattle.reply.proofs.Places.{none_or_some, none_past}
 use Rattle.format.specs.Sizes.{ipv4, ipv4_sound}
 
@@ -75,59 +75,46 @@ module _ (s : List ℕ) (at : ℕ) (f : FillsFrom s at) where
     pub standard_later : (byte_at s at ≡ standard → ⊥) → standards_from ipv4 s at ≡ standards_from ipv4 s (at + be16 s (at + 1))
     standard_later k = rw (← size_read) (standards_same ipv4_sound s at block refl not_empty (ne_eqb _ _ (λ e. k (sym kind_read ∙ e))))
 
--- an iterator over the type 4 blocks that has gone on: what it had left it has left still
-pub record Sought (start now : KnownBlocks) : Type 0 where
-  pub fills : FillsFrom now.reply.now now.place
-  pub same : left_of start ≡ left_of now
+-- a search that has come to a place of such a message
+pub record Sought (s : List ℕ) (place at : ℕ) : Type 0 where
+  pub fills : FillsFrom s at
+  pub same : standards_from ipv4 s place ≡ standards_from ipv4 s at
 
-pub sought_first : (blocks : KnownBlocks) → FillsFrom blocks.reply.now blocks.place → Sought blocks blocks
-sought_first blocks f = record { fills = f; same = refl }
+pub sought_first : (s : List ℕ) (place : ℕ) → FillsFrom s place → Sought s place place
+sought_first s place f = record { fills = f; same = refl }
 
-module _ (start now : KnownBlocks) (g : Sought start now) where
-  abbrev s : List ℕ
-  s = now.reply.now
+-- what it answers: where a block of type 4 begins, and the message is cut from there on as it was
+pub record Knows (s : List ℕ) (place : ℕ) (answer : Option ℕ) : Type 0 where
+  pub found : answer ≡ slice_get (standards_from ipv4 s place) 0
+  pub fills : FillsFrom s (first_or (length s) (standards_from ipv4 s place))
 
-  abbrev at : ℕ
-  at = now.place
-
+module _ (s : List ℕ) (place at : ℕ) (g : Sought s place at) where
   module _ (low : at < length s) where
+    pub sought_here : byte_at s at ≡ standard → Knows s place (Some at)
+    unfolding first_or
+    sought_here k =
+        let parts = standard-here s at g.fills low k in
+        record { found = rw (g.same, parts); fills = rw (g.same, parts) g.fills }
+
     pub sought_inside : at + 1 + 2 ≤ length s
     sought_inside = head_inside s at g.fills low
 
     module _ (size : ℕ) (e : size ≡ be16 s (at + 1)) where
-      abbrev behind : KnownBlocks
-      behind = record { reply = now.reply; place = at + size }
-
-      pub sought_fills : FillsFrom s (at + size)
-      sought_fills = rw e (fills_on s at g.fills low)
+      pub sought_on : (byte_at s at ≡ standard → ⊥) → Sought s place (at + size)
+      sought_on k = rw e (record { fills = fills_on s at g.fills low; same = g.same ∙ standard_later s at g.fills low k })
 
       pub sought_fits : at + size ≤ length s
-      sought_fits = fills_high s (at + size) sought_fills
+      sought_fits = rw e (fills_high s (at + be16 s (at + 1)) (fills_on s at g.fills low))
 
       pub sought_moves : length s - (at + size) < length s - at
       sought_moves = rw e (fills_moves s at g.fills low)
 
-      pub sought_on : (byte_at s at ≡ standard → ⊥) → Sought start behind
-      unfolding blocks_left
-      sought_on k = record { fills = sought_fills; same = g.same ∙ ap (map (λ p. part p standard_size s)) (rw e (standard_later s at g.fills low k)) }
-
-      -- a type 4 block begins here
-      module _ (k : byte_at s at ≡ standard) where
-        sized : size ≡ standard_size
-        sized =
-            e ∙ sym (size_read s at g.fills low)
-            ∙ size_standard ipv4_sound s at (block s at g.fills low) refl (not_empty s at g.fills low) (eq-eqb _ _ (kind_read s at g.fills low ∙ k))
-
-        pub sought_block : at + standard_size ≤ length s
-        sought_block = omega (arith, sized, sought_fits)
-
-        pub sought_here : left_of start ≡ part at standard_size s ∷ left_of behind
-        unfolding blocks_left
-        sought_here = g.same ∙ rw (standard-here s at g.fills low k, size_read s at g.fills low, ← e)
-
-  pub sought_over : length s ≤ at → (left_of start ≡ []) × (left_of now ≡ [])
-  unfolding blocks_left
-  sought_over h = let over : left_of now ≡ [] = rw (none_past s at h) in (g.same ∙ over, over)
+  pub sought_over : length s ≤ at → Knows s place None
+  unfolding first_or
+  sought_over h =
+      let over = none_past s at h in
+      let end : at ≡ length s = omega (arith, fills_high s at g.fills) in
+      record { found = rw (g.same, over); fills = rw (g.same, over) (rw end at g.fills) }
 
 -- each of the blocks left is of 52 bytes
 pub item_long : (s : List ℕ) (place : ℕ) (block : List ℕ) (others : List (List ℕ)) → blocks_left s place ≡ block ∷ others → length block ≡ standard_size

@@ -12,3 +12,4 @@ mod Copying
 mod Reading
 mod Answers
 mod Settled
+mod Known

@@ -56,7 +56,7 @@ pub search_past : (s : List ℕ) (place : ℕ) → length s < place → None ≡
 search_past s place h = rw (none_past s place (omega arith))
 
 -- what is handed out: nothing where none was found, else the block there
-nothing_first : (s : List ℕ) (place : ℕ) (places : List ℕ) → None ≡ slice_get places 0 → places ≡ []
+pub nothing_first : (s : List ℕ) (place : ℕ) (places : List ℕ) → None ≡ slice_get places 0 → places ≡ []
 nothing_first s place [] e = refl
 nothing_first s place (p ∷ places) e = cc
 

@@ -12,7 +12,7 @@ ghost use Rattle.refusal.specs.Refusal.{number_of};
 ghost use Rattle.reply.specs.Check.{reply_rows};
 ghost use Rattle.reply.specs.Reader.{start_of, handed, handed_at, next_from, Opens, Hands};
 ghost use Rattle.reply.specs.Copy.{is_place, copied_next, place_behind};
-ghost use Rattle.reply.specs.Inside.{FillsFrom, left_of};
+ghost use Rattle.reply.specs.Inside.{first_or, FillsFrom, left_of};
 
 use header::{BlockKind, Kind};
 use refusal::Refusal;
@@ -66,6 +66,23 @@ pub fn next_at(s: &[u8], place: usize) -> Option<usize>
             return Some(at);
         }
         at += block.size;
+    }
+    None
+}
+
+// The same in a message whose blocks are known to go up to its end from that place on: of each block only its type and its length
+// are read. It is cut in the same way from the block found on.
+pub fn next_known(s: &[u8], place: usize) -> Option<usize>
+    requires { FillsFrom s.now place }
+    ensures found { result ≡ slice_get (standards_from ipv4 s.now place) 0 }
+    ensures fills { FillsFrom s.now (first_or (length s.now) (standards_from ipv4 s.now place)) }
+{
+    let mut here = place;
+    while here < s.len() {
+        if s[here] == BlockKind::Standard as u8 {
+            return Some(here);
+        }
+        here += wire::be16(s, here + 1) as usize;
     }
     None
 }
@@ -177,13 +194,9 @@ impl<'a> Iterator for KnownBlocks<'a> {
     ghost remaining = { item_count left_of };
 
     fn next(&mut self) -> Option<&'a [u8]> {
-        while self.place < self.reply.len() {
-            let at = self.place;
-            self.place += wire::be16(self.reply, at + 1) as usize;
-            if self.reply[at] == BlockKind::Standard as u8 {
-                return Some(&self.reply[at..at + format::STANDARD_SIZE]);
-            }
-        }
-        None
+        let at = next_known(self.reply, self.place)?;
+        let end = at + format::STANDARD_SIZE;
+        self.place = end;
+        Some(&self.reply[at..end])
     }
 }

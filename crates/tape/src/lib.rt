@@ -1,5 +1,5 @@
-// What the case programs share: they read commands of 32 bytes from standard input, keep bytes in areas, and write lines of words
-// and decimal numbers to standard output.
+// What the case programs share: they read commands of 32 bytes from standard input, run them one after the other, keep bytes in areas, and
+// write lines to standard output.
 #![tactic(auto)]
 
 ghost use Rattle.std.specs.Prelude.{◌≡◌, ◌+◌, ◌≤◌, slice_index, take};
@@ -7,6 +7,9 @@ ghost use Rattle.wire.specs.Numbers.{be16, be32, be64};
 
 use std::io;
 use std::io::{BufReader, BufWriter, ErrorKind, Read, Write};
+
+// As many commands are run at most.
+const MOST_COMMANDS: u32 = 1_000_000;
 
 // The prime of a digest.
 const PRIME: u64 = (1 << 32) - 5;
@@ -98,7 +101,7 @@ pub fn play(rt: &HostRuntime, cases: &mut impl Cases) -> io::Result<()> {
     let mut input = BufReader::new(rt.alloc(), rt.stdin())?;
     let mut out = BufWriter::new(rt.alloc(), rt.stdout())?;
     // Nothing says that the input ends, so its commands are counted.
-    for _ in 0..u64::MAX {
+    for _ in 0..MOST_COMMANDS {
         let Some(command) = Command::read(&mut input)? else {
             break;
         };
