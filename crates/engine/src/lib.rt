@@ -99,7 +99,8 @@ pub fn step_lent(
 }
 
 // One router's step. A message is dropped by the first row of the drop table that applies, and nothing lent is changed; or it is
-// answered by a Request sent on or a Reply, with the message in `output` and its record in `note`.
+// answered by a Request sent on or a Reply, with the message in `output` and its record in `note`. A caller lends the three apart, so they
+// are no struct.
 #[tactic(auto, using(crate::proofs::Steps::step_refused, format::specs::Sizes::ipv4_sound))]
 pub fn step(
     a: Arrival,

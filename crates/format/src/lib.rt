@@ -1,7 +1,8 @@
 // The sizes of a format as one value, which code takes by value and definitions take as a parameter; and the value for IPv4.
 #![tactic(auto)]
 
-// What a message, its blocks and the entries of a sheet measure.
+// What a message, its blocks and the entries of a sheet measure. That sizes are sound is asked where they are used and is no ghost field:
+// the constant would then hold a proof of its own, which is not the definition's.
 #[derive(Clone, Copy)]
 pub struct Format {
     // A message: its header, a Standard Response Block, the place of the forwarding code in that, and the most that a message has.

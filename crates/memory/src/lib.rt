@@ -5,6 +5,8 @@ ghost use Rattle.std.specs.Prelude.{◌≡◌, ◌+◌, ◌≤◌, length};
 ghost use Rattle.wire.specs.Numbers.{bytes64};
 ghost use Rattle.memory.specs.Inside.{le32, le64, octets};
 
+// One function for each width, as in `wire`.
+
 // The number of 4 bytes that begins at `at`, its first byte the one that counts least: in memory's order, for tests that do not mind
 // the order of bytes. The compiler takes it for one load, and swaps no bytes. What is read is bytes.
 pub fn le32(s: &[u8], at: usize) -> u32

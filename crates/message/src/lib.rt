@@ -92,7 +92,7 @@ pub fn block_at(f: Format, s: &[u8], at: usize) -> Option<BlockHead>
     })
 }
 
-// One walk over the blocks of a message, from each to the next by its length, up to the end or to what is no block.
+// One walk over the blocks of a message, from each to the next by its length, so that it is no `for`, up to the end or to what is no block.
 #[tactic(auto, using(crate::proofs::Turns::at_first, crate::proofs::Turns::walk_over, crate::proofs::Turns::block_inside, crate::proofs::Turns::block_moves))]
 pub fn blocks_of(f: Format, s: &[u8]) -> Blocks
     requires sound { Sound f }

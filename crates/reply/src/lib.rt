@@ -52,7 +52,8 @@ pub fn check(s: &[u8]) -> Result<(), Refusal>
     Ok(())
 }
 
-// The place of the first type 4 block from a place on, where a block begins.
+// The place of the first type 4 block from a place on, where a block begins. Each turn goes on by a block's length, here and in the two
+// searches below, so they are no `for`.
 #[tactic(auto, using(crate::proofs::Search::search_past, crate::proofs::Search::search_over, crate::proofs::Search::search_found, crate::proofs::Search::search_on, crate::proofs::Search::search_inside, crate::proofs::Search::search_moves))]
 pub fn next_at(s: &[u8], place: usize) -> Option<usize>
     ensures { result ≡ slice_get (standards_from ipv4 s.now place) 0 }

@@ -36,7 +36,7 @@ impl From<Answer> for u32 {
 // The UDP port that routers listen on, and the interface of a Reply.
 const MTRACE_PORT: u16 = 33435;
 
-const ANY_INTERFACE: u16 = 65535;
+const ANY_INTERFACE: u16 = u16::MAX;
 
 // No room: the message as a Reply, with 0x81 in its last type 4 block, which begins at `last`.
 fn write_full(f: Format, message: &[u8], last: usize, output: &mut [u8])
@@ -105,7 +105,7 @@ fn note_on(chosen: Option<Route>, incoming: Option<Interface>, size: usize) -> N
     }
 }
 
-// The type of what is sent: a Reply where the trace ends, else a Request.
+// The byte that says the type of what is sent: a Reply where the trace ends, else a Request.
 fn kind_sent(ends: bool) -> u8
     ensures { result ≡ kind_sent ends }
 {

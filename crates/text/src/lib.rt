@@ -22,7 +22,8 @@ pub const TEXT_SIZE: usize = 46 + 78 * 27;
 // What is written so far of a text.
 type Text = ArrayVec<u8, TEXT_SIZE>;
 
-// The numbers of a walk: its end, its steps, and the blocks and the length of the last message sent.
+// The numbers of a walk: its end, its steps, and the blocks and the length of the last message sent. A refusal is printed as an end is, by
+// its number.
 #[derive(Clone, Copy, Default)]
 struct Summary {
     end: u32,
@@ -127,7 +128,7 @@ fn line(out: &mut Text, place: u32, block: &[u8])
     word(out, b"\n");
 }
 
-// A line for each type 4 block of a message, from each block to the next by its length.
+// A line for each type 4 block of a message, from each block to the next by its length, so that it is no `for`.
 #[tactic(auto, using(crate::proofs::Passed::no_lines, crate::proofs::Passed::none_yet, crate::proofs::Passed::all_lines))]
 fn lines(out: &mut Text, m: &[u8])
     requires { (length m.now ≤ most) × (length out.old.items + most_lines ≤ text_size) }

@@ -5,6 +5,8 @@ ghost use Rattle.std.specs.Prelude.{◌≡◌, ◌+◌, ◌≤◌, length};
 ghost use Rattle.wire.specs.Numbers.{be16, be32, be64, bytes16, bytes32, bytes64};
 ghost use Rattle.wire.specs.Parts.{splice};
 
+// One function for each width, as the library has them: the width fixes the type of the number, and a parameter cannot.
+
 // The number of 2 bytes that begins at `at`.
 pub fn be16(s: &[u8], at: usize) -> u16
     requires { at + 2 ≤ length s.now }
