@@ -68,10 +68,6 @@ module _ {F : Format} (sound : Sound F) where
       → (is_some found || scoped) ≡ (is_held (holder_of F s address) || link_scoped address)
   held_or_scoped s address found scoped e f = rw (e, f) (ap (λ (b : Bool). b || link_scoped address) (by_holder (holder_of F s address)))
 
-  -- the number of interfaces that the check told
-  pub interfaces_told : (s : List ℕ) (l : Layout) → l ≡ layout_of F s → l.interfaces ≡ (layout_of F s).interfaces
-  interfaces_told s l e = ap (λ (x : Layout). x.interfaces) e
-
   -- the layout that the check told
   pub layout_told : (s : List ℕ) (o : Option Layout) (l : Layout) → o ≡ told_of F s → o ≡ Some l → l ≡ layout_of F s
   layout_told s o l e q = (told_some F s l (sym e ∙ q)).1

@@ -20,7 +20,7 @@ use header::Header;
 use message::{Accepted, Blocks};
 use refusal::Refusal;
 use route_entry::Route;
-use sheet::Layout;
+use sheet::{Layout, Sheet};
 
 // The TTL with which a Request comes from a neighbour.
 pub const NEAR_TTL: u32 = 255;
@@ -59,12 +59,16 @@ pub fn lent_row(output: usize, note: usize, recent: &[u8]) -> Result<(), Refusal
 
 // DEST does not apply: the destination is an interface address here, or in 224.0.0.0/24.
 #[tactic(auto, using(crate::proofs::Rows::held_or_scoped))]
-fn is_delivered(f: Format, sheet: &[u8], interfaces: usize, destination: u32) -> bool
-    requires sound { Sound f }
-    requires interfaces_value { interfaces ≡ (layout_of f sheet.now).interfaces }
-    ensures { result ≡ (is_held (holder_of f sheet.now destination) || link_scoped destination) }
+fn is_delivered(sheet: Sheet, destination: u32) -> bool
+    ensures { result ≡ (is_held (holder_of sheet.entry.format sheet.entry.bytes.now destination) || link_scoped destination) }
 {
-    tables::holder(f, sheet, interfaces, destination).is_some() | address::link_scoped(destination)
+    let held = tables::holder(
+        sheet.format,
+        sheet.bytes,
+        sheet.layout.interfaces,
+        destination,
+    );
+    held.is_some() | address::link_scoped(destination)
 }
 
 // A Query whose client and id are in a well-formed recent list.
@@ -76,31 +80,27 @@ fn is_seen(recent: &[u8], h: Header) -> bool
 }
 
 // Whether this is the proper last hop for a Query, by the route chosen. Nothing is asked of a Request.
-fn is_proper(f: Format, sheet: &[u8], layout: Layout, chosen: Option<Route>, h: Header) -> bool
-    requires sound { Sound f }
-    requires layout_value { layout ≡ layout_of f sheet.now }
-    ensures { result ≡ (is_query h && proper_last_hop (interface_of f sheet.now) (layout_of f sheet.now).interfaces chosen h.client) }
+fn is_proper(sheet: Sheet, chosen: Option<Route>, h: Header) -> bool
+    ensures { result ≡ (is_query h
+        && proper_last_hop (interface_of sheet.entry.format sheet.entry.bytes.now) (layout_of sheet.entry.format sheet.entry.bytes.now).interfaces chosen h.client) }
 {
-    h.is_query() && last_hop::last_hop(f, sheet, layout, chosen, h.client)
+    h.is_query() && last_hop::last_hop(sheet, chosen, h.client)
 }
 
 // Rows 14 to 17.
-#[tactic(auto, using(rows::proofs::Laws::first, crate::proofs::Rows::interfaces_told), unfolding(crate::specs::Drop::delivery_rows, rows::specs::Rows::by_first))]
+#[tactic(auto, using(rows::proofs::Laws::first), unfolding(crate::specs::Drop::delivery_rows, rows::specs::Rows::by_first))]
 fn delivery_row(
-    f: Format,
     a: Arrival,
-    sheet: &[u8],
-    layout: Layout,
+    sheet: Sheet,
     recent: &[u8],
     h: Header,
     used: usize,
 ) -> Result<(), Refusal>
-    requires sound { Sound f }
-    requires layout_value { layout ≡ layout_of f sheet.now }
-    requires formed { Formed recent.now }
-    ensures { number_of result ≡ first_of (delivery_rows f sheet.now recent.now h used a.entry.destination a.entry.ttl) }
+    requires { Formed recent.now }
+    ensures { number_of result
+        ≡ first_of (delivery_rows sheet.entry.format sheet.entry.bytes.now recent.now h used a.entry.destination a.entry.ttl) }
 {
-    if !is_delivered(f, sheet, layout.interfaces, a.destination) {
+    if !is_delivered(sheet, a.destination) {
         return Err(Refusal::Dest);
     }
     if h.is_request() & (a.ttl != NEAR_TTL) {
@@ -128,23 +128,15 @@ fn route_row(proper: bool, h: Header, destination: u32) -> Result<(), Refusal>
 
 // Rows 14 to 18, where the sheet, the recent list and the message itself are right.
 #[tactic(auto, using(crate::proofs::Rows::routed_dropped, crate::proofs::Rows::routed_late, crate::proofs::Rows::routed_taken))]
-fn routed(
-    f: Format,
-    a: Arrival,
-    m: Accepted,
-    sheet: &[u8],
-    layout: Layout,
-    recent: &[u8],
-) -> Result<Judged, Refusal>
-    requires sound { Sound f }
-    requires layout_value { layout ≡ layout_of f sheet.now }
-    requires formed { Formed recent.now }
-    ensures { verdict_by result ≡ routed_of f m.header m.blocks a.entry.destination a.entry.ttl sheet.now recent.now }
+fn routed(a: Arrival, m: Accepted, sheet: Sheet, recent: &[u8]) -> Result<Judged, Refusal>
+    requires { Formed recent.now }
+    ensures { verdict_by result
+        ≡ routed_of sheet.entry.format m.header m.blocks a.entry.destination a.entry.ttl sheet.entry.bytes.now recent.now }
 {
     let Accepted { header, blocks } = m;
-    delivery_row(f, a, sheet, layout, recent, header, blocks.count)?;
-    let chosen = route::choose(f, sheet, layout, header.source, header.group);
-    let proper = is_proper(f, sheet, layout, chosen, header);
+    delivery_row(a, sheet, recent, header, blocks.count)?;
+    let chosen = route::choose(sheet, header.source, header.group);
+    let proper = is_proper(sheet, chosen, header);
     route_row(proper, header, a.destination)?;
     Ok(Judged {
         header,
@@ -176,5 +168,10 @@ pub fn judge(
         return Err(Refusal::Iface);
     }
     let m = message::check(f, a.message)?;
-    routed(f, a, m, sheet, layout, recent)
+    let sheet = Sheet {
+        format: f,
+        bytes: sheet,
+        layout,
+    };
+    routed(a, m, sheet, recent)
 }

@@ -25,9 +25,16 @@ use Rattle.tables.proofs.Laws.{interface_keeps}
 use Rattle.last_hop.specs.Inside.{reaches_by}
 use Rattle.last_hop.specs.LastHop.{reaches, some_reaches}
 
--- an interface that is counted has a bit in every map
-pub bit_there : (F : Format) (s : List ℕ) (l : Layout) → l ≡ layout_of F s → (k : ℕ) → k < l.interfaces → k < most_interfaces
-bit_there F s l layout k h = interface_few F s k (rw layout at h)
+-- an interface that the check counted is one of the sheet's, has a bit in every map, and is short enough for a prefix
+module _ (F : Format) (s : List ℕ) (l : Layout) (layout : l ≡ layout_of F s) (k : ℕ) (h : k < l.interfaces) where
+  pub counted : k < (layout_of F s).interfaces
+  counted = rw layout at h
+
+  pub bit_there : k < most_interfaces
+  bit_there = interface_few F s k counted
+
+  pub interface_short_enough : Sound F → (i : Interface) → i ≡ interface_of F s k → i.length ≤ address_bits
+  interface_short_enough sound i read = rw read (interface_short F _ (interface_keeps sound s k counted))
 
 -- a bit is set or clear
 low_bit : (n : ℕ) (x y : Bool) → cond (eqb (n % 2) 0) false (x && y) ≡ x && eqb (n % 2) 1 && y
@@ -42,9 +49,6 @@ pub bit_set : (F : Format) (s : List ℕ) (map client k : ℕ) (i : Interface) �
     → y ≡ same_prefix i.length i.address client → x && y ≡ reaches_by map client (interface_of F s k)
 unfolding reaches_by
 bit_set F s map client k i read x y e f g = rw (ne_eqb (map % 2) 0 e, f, g, read)
-
-pub interface_short_enough : {F : Format} → Sound F → (s : List ℕ) (k : ℕ) (i : Interface) → i ≡ interface_of F s k → k < (layout_of F s).interfaces → i.length ≤ address_bits
-interface_short_enough {F} sound s k i read h = rw read (interface_short F _ (interface_keeps sound s k h))
 
 -- where nothing is left, no later bit is set
 none_left : (forward k i : ℕ) → forward / 2 ^ k ≡ 0 → k ≤ i → forward / 2 ^ i ≡ 0

@@ -3,7 +3,7 @@
 
 ghost use Rattle.std.specs.Prelude.{true, ◌≡◌, ◌+◌, ◌*◌, ◌≤◌, ◌<◌, length};
 ghost use Rattle.prefix.specs.Prefix.{address_bits};
-ghost use Rattle.format.specs.Sizes.{Sound, route_fields};
+ghost use Rattle.format.specs.Sizes.{route_fields};
 ghost use Rattle.route_entry.specs.Route.{route_at};
 ghost use Rattle.route_rules.specs.Rules.{route_ok};
 ghost use Rattle.sheet.specs.Sheet.{layout_of};
@@ -12,9 +12,8 @@ ghost use Rattle.tables.specs.Inside.{Beside};
 ghost use Rattle.route.specs.Choice.{which_route};
 ghost use Rattle.route.specs.Inside.{of_source, serves, rank_as, rank_at, better, best_with, best_of};
 
-use format::Format;
 use route_entry::Route;
-use sheet::Layout;
+use sheet::Sheet;
 
 // The lowest rank of kind 3. Ranks are numbers, since each bit of a source prefix's length is one more.
 const SOURCE_RANK: usize = 1;
@@ -83,10 +82,11 @@ fn better(b: Best, rank: usize, at: usize) -> Best
 }
 
 // The best so far, with the route at a place.
-fn best_with(f: Format, b: Best, s: &[u8], at: usize, source: u32, group: u32) -> Best
-    requires { (at + route_fields ≤ length s.now) × (route_ok (layout_of f s.now).interfaces (route_at s.now at) ≡ true) }
-    ensures { result ≡ better b (rank_at s.now source group at) at }
+fn best_with(sheet: Sheet, b: Best, at: usize, source: u32, group: u32) -> Best
+    requires { (at + route_fields ≤ length sheet.bytes.now) × (route_ok sheet.layout.interfaces (route_at sheet.bytes.now at) ≡ true) }
+    ensures { result ≡ better b (rank_at sheet.entry.bytes.now source group at) at }
 {
+    let s = sheet.bytes;
     if !serves(s, at, source, group) {
         return b;
     }
@@ -101,51 +101,45 @@ fn best_with(f: Format, b: Best, s: &[u8], at: usize, source: u32, group: u32) -
 }
 
 // The best so far, with so many routes that stand side by side from a place on: one pass over them.
-fn best_in(
-    f: Format,
-    s: &[u8],
-    at: usize,
-    count: usize,
-    before: Best,
-    source: u32,
-    group: u32,
-) -> Best
-    requires sound { Sound f }
-    requires beside { Beside f s.now at count }
-    ensures { result ≡ best_with (rank_at s.now source group) (λ j. at + f.route * j) before count }
+fn best_in(sheet: Sheet, at: usize, count: usize, before: Best, source: u32, group: u32) -> Best
+    requires { Beside sheet.format sheet.bytes.now at count }
+    ensures { result ≡ best_with (rank_at sheet.entry.bytes.now source group) (λ j. at + sheet.entry.format.route * j) before count }
 {
     let mut b = before;
     for j in 0..count {
-        b = best_with(f, b, s, at + f.route * j, source, group);
+        b = best_with(sheet, b, at + sheet.format.route * j, source, group);
     }
     b
 }
 
 // One pass over the routes of a valid sheet. Each turn goes on by the routes that its block has, so it is no `for`.
-fn best_of(f: Format, s: &[u8], l: Layout, source: u32, group: u32) -> Best
-    requires sound { Sound f }
-    requires l_value { l ≡ layout_of f s.now }
-    ensures { result ≡ best_of f s.now source group (layout_of f s.now).routes }
+fn best_of(sheet: Sheet, source: u32, group: u32) -> Best
+    ensures { result ≡ best_of sheet.entry.format sheet.entry.bytes.now source group (layout_of sheet.entry.format sheet.entry.bytes.now).routes }
 {
     let mut b = Best { rank: 0, at: 0 };
     let mut k: usize = 0;
-    while k < l.routes {
-        let count = tables::routes_beside(f, l, k);
-        b = best_in(f, s, tables::route_place(f, l, k), count, b, source, group);
+    while k < sheet.layout.routes {
+        let count = tables::routes_beside(sheet, k);
+        b = best_in(
+            sheet,
+            tables::route_place(sheet, k),
+            count,
+            b,
+            source,
+            group,
+        );
         k += count;
     }
     b
 }
 
 // The route of a valid sheet for a source and a group; all ones stands for none of either.
-pub fn choose(f: Format, s: &[u8], l: Layout, source: u32, group: u32) -> Option<Route>
-    requires sound { Sound f }
-    requires l_value { l ≡ layout_of f s.now }
-    ensures { result ≡ which_route (routes_of f s.now) source group }
+pub fn choose(sheet: Sheet, source: u32, group: u32) -> Option<Route>
+    ensures { result ≡ which_route (routes_of sheet.entry.format sheet.entry.bytes.now) source group }
 {
-    let b = best_of(f, s, l, source, group);
+    let b = best_of(sheet, source, group);
     if b.rank == 0 {
         return None;
     }
-    Some(route_entry::route_at(s, b.at))
+    Some(route_entry::route_at(sheet.bytes, b.at))
 }

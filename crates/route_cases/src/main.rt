@@ -4,6 +4,7 @@
 
 use format::IPV4;
 use route_entry::Route;
+use sheet::Sheet;
 use std::io::Write;
 use std::{fmt, io};
 use tape::{Cases, Command};
@@ -12,7 +13,7 @@ use tape::{Cases, Command};
 const AREA: usize = 8192;
 
 #[derive(Drop)]
-struct Sheet {
+struct Area {
     bytes: [u8; AREA],
 }
 
@@ -40,16 +41,21 @@ impl fmt::Display for Answer {
 #[tactic(auto, using(sheet::proofs::Laws::told_some))]
 fn ask(s: &[u8], source: u32, group: u32, client: u32) -> Answer {
     match sheet::check(s) {
-        Some(l) => {
-            let chosen = route::choose(IPV4, s, l, source, group);
-            let last = last_hop::last_hop(IPV4, s, l, chosen, client);
+        Some(layout) => {
+            let sheet = Sheet {
+                format: IPV4,
+                bytes: s,
+                layout,
+            };
+            let chosen = route::choose(sheet, source, group);
+            let last = last_hop::last_hop(sheet, chosen, client);
             Answer { chosen, last }
         }
         None => Answer::default(),
     }
 }
 
-impl Cases for Sheet {
+impl Cases for Area {
     fn run(&mut self, command: &Command, out: &mut impl Write) -> io::Result<()> {
         match command.operation() {
             0 => command.label(out)?,
@@ -67,5 +73,5 @@ impl Cases for Sheet {
 }
 
 fn main(rt: HostRuntime) -> io::Result<()> {
-    tape::play(&rt, &mut Sheet { bytes: [0; AREA] })
+    tape::play(&rt, &mut Area { bytes: [0; AREA] })
 }

@@ -12,6 +12,10 @@ ghost use Rattle.sheet.specs.Inside.{Leading, in_run};
 use format::Format;
 use sheet_block::{Entries, Interfaces, Routes, block_ok};
 
+mod known;
+
+pub use known::Sheet;
+
 // The most blocks of a sheet.
 const MOST_BLOCKS: usize = 16;
 

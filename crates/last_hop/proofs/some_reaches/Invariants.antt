@@ -5,4 +5,4 @@ use Rattle.last_hop.specs.LastHop.{some_reaches}
 use Rattle.last_hop.proofs.some_reaches.Given as goal
 
 abbrev pub invariant-loop-k : goal.invariant-loop-k
-invariant-loop-k l = some_reaches (interface_of l.f l.s) l.r l.client l.k ≡ false
+invariant-loop-k l = some_reaches (interface_of l.sheet.format l.sheet.bytes.now) l.r l.client l.k ≡ false

@@ -14,11 +14,11 @@ pub route_place-requires : goal.route_place-requires
 route_place-requires c = search route_placed
 
 pub best_in-b-requires : goal.best_in-b-requires
-best_in-b-requires c = record { sound = search; beside = search routes_beside_lem }
+best_in-b-requires c = search routes_beside_lem
 
 pub loop-k-smaller : goal.loop-k-smaller
 loop-k-smaller c =
-    omega (arith, beside_some c.requires.sound _ _ c.loop-k-test.true)
+    omega (arith, beside_some c.args.sheet.sound _ _ c.loop-k-test.true)
 
 pub loop-k-preserved : goal.loop-k-preserved
 loop-k-preserved c = (omega arith, search block_more)
