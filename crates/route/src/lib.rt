@@ -119,10 +119,10 @@ fn best_of(sheet: Sheet, source: u32, group: u32) -> Best
     let mut b = Best { rank: 0, at: 0 };
     let mut k: usize = 0;
     while k < sheet.layout.routes {
-        let count = tables::routes_beside(sheet, k);
+        let count = tables::routes_beside(sheet.format, sheet.layout, k);
         b = best_in(
             sheet,
-            tables::route_place(sheet, k),
+            tables::route_place(sheet.format, sheet.layout, k),
             count,
             b,
             source,

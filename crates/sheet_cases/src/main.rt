@@ -5,7 +5,6 @@
 use format::IPV4;
 use interface::Interface;
 use route_entry::Route;
-use sheet::Sheet;
 use std::io::Write;
 use std::{fmt, io};
 use tape::{Cases, Command};
@@ -14,7 +13,7 @@ use tape::{Cases, Command};
 const AREA: usize = 8704;
 
 #[derive(Drop)]
-struct Area {
+struct Sheet {
     bytes: [u8; AREA],
 }
 
@@ -72,16 +71,10 @@ fn interface(s: &[u8], i: usize) -> Option<Interface> {
     }
 }
 
-#[tactic(auto, using(sheet::proofs::Laws::told_some, tables::proofs::Laws::route_placed))]
 fn route(s: &[u8], k: usize) -> Option<Route> {
-    let layout = sheet::check(s)?;
-    if k < layout.routes {
-        let sheet = Sheet {
-            format: IPV4,
-            bytes: s,
-            layout,
-        };
-        Some(route_entry::route_at(s, tables::route_place(sheet, k)))
+    let l = sheet::check(s)?;
+    if k < l.routes {
+        Some(route_entry::route_at(s, tables::route_place(IPV4, l, k)))
     } else {
         None
     }
@@ -93,7 +86,7 @@ fn holder(s: &[u8], address: u32) -> Option<usize> {
     tables::holder(IPV4, s, l.interfaces, address)
 }
 
-impl Cases for Area {
+impl Cases for Sheet {
     fn run(&mut self, command: &Command, out: &mut impl Write) -> io::Result<()> {
         let s = tape::lent(&self.bytes, command.number32(12));
         let number = command.number32(20);
@@ -118,5 +111,5 @@ impl Cases for Area {
 }
 
 fn main(rt: HostRuntime) -> io::Result<()> {
-    tape::play(&rt, &mut Area { bytes: [0; AREA] })
+    tape::play(&rt, &mut Sheet { bytes: [0; AREA] })
 }

@@ -10,7 +10,7 @@ ghost use Rattle.tables.specs.Tables.{place_of, interface_of, prohibited_of, hol
 ghost use Rattle.tables.specs.Inside.{routes_beside};
 
 use format::Format;
-use sheet::Sheet;
+use sheet::Layout;
 use sheet_block::PROHIBITS;
 
 // Where entry `i` of a size begins: numbers run on over the blocks of its kind, from block `first` on.
@@ -33,21 +33,23 @@ pub fn interface_place(f: Format, i: usize) -> usize
 }
 
 // Where route `k` begins. It is read there (crate `route_entry`).
-pub fn route_place(sheet: Sheet, k: usize) -> usize
-    requires { place_of sheet.format.route sheet.layout.blocks k + sheet.format.route ≤ block_size * most_blocks }
-    ensures { result ≡ place_of sheet.entry.format.route sheet.entry.layout.blocks k }
+pub fn route_place(f: Format, l: Layout, k: usize) -> usize
+    requires sound { Sound f }
+    requires route_bound { place_of f.route l.blocks k + f.route ≤ block_size * most_blocks }
+    ensures { result ≡ place_of f.route l.blocks k }
 {
-    place(sheet.format.route, sheet.layout.blocks, k)
+    place(f.route, l.blocks, k)
 }
 
 // How many routes stand side by side from route `k` on: to the end of its block, or of the routes. A search goes through them by
 // their size, and looks for a place again only with the next block.
-pub fn routes_beside(sheet: Sheet, k: usize) -> usize
-    requires { k < sheet.layout.routes }
-    ensures { result ≡ routes_beside sheet.entry.format sheet.entry.layout.routes k }
+pub fn routes_beside(f: Format, l: Layout, k: usize) -> usize
+    requires sound { Sound f }
+    requires k_lt_routes { k < l.routes }
+    ensures { result ≡ routes_beside f l.routes k }
 {
-    let full = block::ENTRIES_ROOM / sheet.format.route;
-    let left = sheet.layout.routes - k;
+    let full = block::ENTRIES_ROOM / f.route;
+    let left = l.routes - k;
     left.min(full - k % full)
 }
 
