@@ -6,9 +6,11 @@ use Rattle.refusal.specs.declared.Refusal.{Refusal}
 use Rattle.refusal.proofs.Laws.{one_number, number_positive}
 use Rattle.rows.proofs.Laws.{both_are}
 use Rattle.clock.specs.declared.Clock.{Clock}
-use Rattle.clock.specs.Clock.{Tick, clock_of, tick_of}
+use Rattle.clock.specs.declared.Tick.{Tick}
+use Rattle.clock.specs.Clock.{clock_of, tick_of}
 use Rattle.clock.proofs.Clock.start.Reads as start
 use Rattle.clock.proofs.Clock.advance.Reads as advance
+use Rattle.clock.proofs.Clock.tick.Reads as tick
 use Rattle.clock.proofs.arrival.Reads as arrival
 
 -- an answer to a reading is settled by the tick that it says
@@ -26,3 +28,6 @@ advance_determined κs a x y e f p q = one_tick a.0 x y (both_are p q)
 
 pub arrival_determined : (κs : _) (a : _) (x y : _) (e f : _) → arrival.Post κs a x e → arrival.Post κs a y f → x ≡ y
 arrival_determined κs a x y e f p q = both_are p q
+
+pub tick_determined : (κs : _) (a : _) (x y : _) (e f : _) → tick.Post κs a x e → tick.Post κs a y f → x ≡ y
+tick_determined κs a x y e f p q = both_are p q

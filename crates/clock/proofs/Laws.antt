@@ -10,7 +10,8 @@ use borrow.Author.Tests.{ltb-false, leb-true, le-ltb, ne_eqb}
 use Rattle.rows.specs.Rows.{by_first, NoneApplies}
 use Rattle.rows.proofs.Laws.{by_rows, first_passes, neither_of}
 use Rattle.clock.specs.declared.Clock.{Clock}
-use Rattle.clock.specs.Clock.{last_time, Tick, out_of_range, spent, clock_of, issued, refused_tick, time_for, start_rows, advance_rows, start_of, advance_of}
+use Rattle.clock.specs.declared.Tick.{Tick}
+use Rattle.clock.specs.Clock.{last_time, out_of_range, spent, clock_of, issued, refused_tick, time_for, start_rows, advance_rows, start_of, advance_of}
 use Rattle.clock.specs.Readings.{after_by, after, Issue, issue_then, issues_by, issues, all_issues, times, Sound, RiseAbove, NeverTwice, lead, RoseByTwo, Shrunk}
 use Rattle.clock.proofs.Time.{Takes, not_last, by_rise}
 

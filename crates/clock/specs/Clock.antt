@@ -4,6 +4,7 @@ use Rattle.rows.specs.Rows.{Row, row, by_first}
 use Rattle.refusal.specs.declared.Refusal.{Refusal}
 use Rattle.refusal.specs.Refusal.{number}
 use Rattle.clock.specs.declared.Clock.{Clock}
+use Rattle.clock.specs.declared.Tick.{Tick}
 
 -- the last time there is: 2^48 - 1
 abbrev pub last_time : ℕ
@@ -24,12 +25,6 @@ clock_state = 33
 -- a clock whose last reading is r and whose last issued time is y
 abbrev pub clock_of : ℕ → ℕ → Clock
 clock_of r y = record { r = r; y = y }
-
--- what a reading gave: the number (0, or why it was refused), the clock to go on with, the time issued
-pub record Tick : Type 0 where
-  pub number : ℕ
-  pub clock : Clock
-  pub time : ℕ
 
 -- accepted: the number is 0, and the time issued is the new clock's y
 abbrev pub issued : ℕ → ℕ → Tick

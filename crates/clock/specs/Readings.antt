@@ -1,7 +1,8 @@
 -- A clock over a list of readings: the clock it comes to, the times it issues, and what the laws say of both.
 use Rattle.std.specs.Prelude.{ℕ, ◌+◌, ◌*◌, ◌-◌, ◌≤◌, ◌<◌, cond, List, [], ◌∷◌, map, ◌≡◌, eqb, length, get_or}
 use Rattle.clock.specs.declared.Clock.{Clock}
-use Rattle.clock.specs.Clock.{last_time, Tick, start_of, advance_of}
+use Rattle.clock.specs.declared.Tick.{Tick}
+use Rattle.clock.specs.Clock.{last_time, start_of, advance_of}
 
 -- the clock after a list of readings, each taken by `advance`; a refused reading leaves it as it was
 unfoldable pub after_by : (Clock → ℕ → Tick) → Clock → List ℕ → Clock

@@ -13,6 +13,14 @@ pub struct Clock {
     pub y: u64,
 }
 
+// What a reading gave, as it is handed on: the number (0, or why it was refused), the clock to go on with, the time issued.
+#[derive(Clone, Copy)]
+pub struct Tick {
+    pub number: u32,
+    pub clock: Clock,
+    pub time: u64,
+}
+
 const LAST_TIME: u64 = (1 << 48) - 1;
 
 const ARRIVAL_TIMES: u64 = 1 << 32;
@@ -48,6 +56,24 @@ impl Clock {
             r: t,
             y: self.time_for(t),
         })
+    }
+
+    // What an answer to a reading says: a clock has issued its y; where it was refused the clock is this one, and no time is issued.
+    pub fn tick(self, answer: Result<Clock, Refusal>) -> Tick
+        ensures { result ≡ tick_of self answer }
+    {
+        match answer {
+            Ok(clock) => Tick {
+                number: 0,
+                clock,
+                time: clock.y,
+            },
+            Err(refusal) => Tick {
+                number: u32::from(refusal),
+                clock: self,
+                time: 0,
+            },
+        }
     }
 
     // The time issued for a reading that is accepted.

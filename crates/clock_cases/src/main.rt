@@ -2,7 +2,7 @@
 // 3 the clock handed back last, 4 turns UNIX time into units, and 5 gives an arrival time.
 #![tactic(auto)]
 
-use clock::Clock;
+use clock::{Clock, Tick};
 use refusal::Refusal;
 use std::io;
 use std::io::Write;
@@ -31,13 +31,10 @@ impl Held {
     fn answer(
         &mut self,
         before: Clock,
-        tick: Result<Clock, Refusal>,
+        answer: Result<Clock, Refusal>,
         out: &mut impl Write,
     ) -> io::Result<()> {
-        let (number, clock, time) = match tick {
-            Ok(clock) => (0, clock, clock.y),
-            Err(refusal) => (u32::from(refusal), before, 0),
-        };
+        let Tick { number, clock, time } = before.tick(answer);
         self.clock = clock;
         writeln!(out, " -> {number} {} {} {time}", clock.r, clock.y)
     }

@@ -15,7 +15,7 @@ use Rattle.wire.proofs.Laws.{be_within, splice_front}
 use native.Mathlib.Omega.{arith}
 use native.Mathlib.Nat.{zero-add}
 use lib.Dec.{lit≤}
-use Rattle.clock.specs.Clock.{Tick}
+use Rattle.clock.specs.declared.Tick.{Tick}
 use Rattle.clock.specs.Clock.{clock_of, start_of, advance_of, arrival_of}
 use Rattle.unix.specs.Unix.{unix_of}
 use Rattle.drops.specs.Arrival.{arrival}

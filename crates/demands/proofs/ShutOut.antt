@@ -12,7 +12,7 @@ use Rattle.rows.proofs.Laws.{zero_none}
 use Rattle.wire.specs.Numbers.{byte_at, be32}
 use Rattle.wire.specs.Parts.{splice, blank}
 use Rattle.clock.specs.declared.Clock.{Clock}
-use Rattle.clock.specs.Clock.{Tick}
+use Rattle.clock.specs.declared.Tick.{Tick}
 use Rattle.clock.specs.Clock.{last_time, clock_of, issued}
 use Rattle.clock.specs.Readings.{all_issues_by, times, Sound, lead}
 use Rattle.header.specs.Format.{code_offset}

@@ -2,7 +2,7 @@
 -- that the rule is for. UNIX time and the arrival time beside it.
 use Rattle.std.specs.Prelude.{ℕ, ◌+◌, ◌-◌, ◌/◌, ◌%◌, ◌≤◌, ◌<◌, min, max, List, ◌⊎◌, ◌≡◌}
 use Rattle.clock.specs.declared.Clock.{Clock}
-use Rattle.clock.specs.Clock.{Tick}
+use Rattle.clock.specs.declared.Tick.{Tick}
 use Rattle.unix.specs.Unix.{Units}
 use Rattle.clock.specs.Clock.{last_time, clock_reading, clock_state, clock_of, issued, refused_tick, arrival_times}
 use Rattle.unix.specs.Unix.{clock_unix, last_second, second_nanos, units_for, converted, refused_units}

@@ -3,7 +3,7 @@
 use Rattle.std.specs.Prelude.{ℕ, ◌≤◌, ◌<◌, List, ◌++◌, ◌≡◌, length, take}
 use Rattle.wire.specs.Numbers.{be32, bytes32, bytes64}
 use Rattle.wire.specs.Parts.{splice}
-use Rattle.clock.specs.Clock.{Tick}
+use Rattle.clock.specs.declared.Tick.{Tick}
 use Rattle.message.specs.Blocks.{standard_count}
 use Rattle.drops.specs.Arrival.{arrival}
 use Rattle.drops.specs.Drop.{drop_room}

@@ -29,7 +29,7 @@ const ANSWER_SIZE: usize = 16;
 pub fn bough_clock_start(reading: u64, out: &mut [u8]) -> u32
     ensures { TickMeets (start_of reading) out.old result out.new }
 {
-    ticks::hand_over(Clock::start(reading), out)
+    ticks::hand_over(Clock { r: 0, y: 0 }.tick(Clock::start(reading)), out)
 }
 
 // Advances the clock (r, y).
@@ -37,7 +37,7 @@ pub fn bough_clock_advance(r: u64, y: u64, reading: u64, out: &mut [u8]) -> u32
     ensures { TickMeets (advance_of (clock_of r y) reading) out.old result out.new }
 {
     let c = Clock { r, y };
-    ticks::hand_over(c.advance(reading), out)
+    ticks::hand_over(c.tick(c.advance(reading)), out)
 }
 
 // UNIX time to units; 0 where it is refused.

@@ -3,7 +3,7 @@ use Rattle.std.specs.Prelude.{ℕ, not, List, [], ◌∷◌, ◌++◌, ◌≡◌
 use Rattle.rows.specs.Rows.{Row, row, by_first, first_of}
 use Rattle.wire.specs.Numbers.{bytes64}
 use Rattle.wire.specs.Parts.{splice}
-use Rattle.clock.specs.Clock.{Tick}
+use Rattle.clock.specs.declared.Tick.{Tick}
 use Rattle.drops.specs.Drop.{drop_room}
 
 -- the bytes that are lent for the clock's r, y and time
