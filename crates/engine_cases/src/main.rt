@@ -87,8 +87,8 @@ impl Cases for Areas {
     }
 
     fn end(&self, out: &mut impl Write) -> io::Result<()> {
-        self.answers.print("answer", out)?;
-        self.codes.print("code", out)
+        self.answers.print(b"answer", out)?;
+        self.codes.print(b"code", out)
     }
 }
 

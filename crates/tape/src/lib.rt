@@ -17,12 +17,12 @@ const PRIME: u64 = (1 << 32) - 5;
 // A command: its first byte says what is to be done, the others what with.
 #[derive(Clone, Copy)]
 pub struct Command {
-    bytes: [u8; 32],
+    pub bytes: [u8; 32],
 }
 
 impl Command {
     // Reads the next command. There is none where fewer bytes are left.
-    fn read(input: &mut impl Read) -> io::Result<Option<Command>> {
+    pub fn read(input: &mut impl Read) -> io::Result<Option<Command>> {
         let mut bytes = [0; 32];
         match input.read_exact(&mut bytes) {
             Ok(()) => Ok(Some(Command { bytes })),
@@ -135,7 +135,7 @@ pub fn digest(area: &[u8]) -> u64 {
 // How often each number below 256 was met.
 #[derive(Drop)]
 pub struct Counts {
-    met: [u64; 256],
+    pub met: [u64; 256],
 }
 
 impl Counts {
@@ -150,10 +150,11 @@ impl Counts {
     }
 
     // Writes a line for each number that was met.
-    pub fn print(&self, word: &str, out: &mut impl Write) -> io::Result<()> {
+    pub fn print(&self, word: &[u8], out: &mut impl Write) -> io::Result<()> {
         for (n, met) in self.met.iter().enumerate() {
             if *met > 0 {
-                writeln!(out, "{word} {n} met {met}")?;
+                out.write_all(word)?;
+                writeln!(out, " {n} met {met}")?;
             }
         }
         Ok(())

@@ -77,7 +77,7 @@ impl Cases for Areas {
     }
 
     fn end(&self, out: &mut impl Write) -> io::Result<()> {
-        self.ends.print("end", out)
+        self.ends.print(b"end", out)
     }
 }
 
