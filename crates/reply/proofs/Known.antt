@@ -18,12 +18,18 @@ pub known_none : (s : List ℕ) (place : ℕ) → None ≡ slice_get (standards_
 unfolding blocks_left
 known_none s place e = rw (nothing_first s place _ e)
 
+-- the place that a search has come to where it found nothing: the message's end
+pub none_found : (s : List ℕ) (place : ℕ) → None ≡ slice_get (standards_from ipv4 s place) 0 → length s ≡ first_or (length s) (standards_from ipv4 s place)
+unfolding first_or
+none_found s place e = rw (nothing_first s place _ e)
+
 module _ (s : List ℕ) (place at : ℕ) (e : Some at ≡ slice_get (standards_from ipv4 s place) 0) where
   pub known_here : blocks_left s place ≡ part at standard_size s ∷ blocks_left s (at + standard_size)
   unfolding blocks_left
   known_here = rw (found_parts s place at e)
 
-  is_found : at ≡ first_or (length s) (standards_from ipv4 s place)
+  -- and where it found a block: where that begins
+  pub is_found : at ≡ first_or (length s) (standards_from ipv4 s place)
   unfolding first_or
   is_found = rw (found_parts s place at e)
 

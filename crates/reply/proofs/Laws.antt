@@ -10,5 +10,7 @@ pub use Rattle.reply.proofs.Reading.{left_from, left_all, readable_blocks, reads
 pub use Rattle.reply.proofs.Answers.{answers_all}
 -- what a call by place answers, as a number, which is that of a place within the longest message
 pub use Rattle.reply.proofs.Copying.{answer_high, behind_told, none_told}
+-- the place that a search for a type 4 block has come to: what it found, or the message's end where it found nothing
+pub use Rattle.reply.proofs.Known.{is_found, none_found}
 -- where a search for a type 4 block ends, and that the blocks behind it go up to the message's end
 pub use Rattle.reply.proofs.Settled.{settled, settled_same, settled_forth, settled_high, settled_over, settled_inside, settled_more, fills_behind}

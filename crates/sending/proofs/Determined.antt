@@ -10,6 +10,7 @@ use Rattle.sending.specs.declared.Answer.TheVariants.{SentOn, SentHome}
 use Rattle.sending.specs.Inside.{Written}
 use Rattle.sending.proofs.send_longer.Reads as send_longer
 use Rattle.sending.proofs.send_full.Reads as send_full
+use Rattle.sending.proofs.U32FromAnswer.from.Reads as from
 
 -- an answer is settled by its number
 pub one_sent : (x y : Answer) → number_of x ≡ number_of y → x ≡ y
@@ -29,3 +30,7 @@ send_longer_determined κs a x y e f p q = written_settled p q
 pub send_full_determined : (κs : _) (a : _) (x y : _) (e f : _) → send_full.Post κs a x e → send_full.Post κs a y f
     → (x ≡ y) × (e.1.1.1.1.1.0.now ≡ f.1.1.1.1.1.0.now) × (e.1.1.1.1.1.1.0.now ≡ f.1.1.1.1.1.1.0.now)
 send_full_determined κs a x y e f p q = written_settled p q
+
+-- the number of an answer
+pub from_determined : (κs : _) (a : _) (x y : _) (e f : _) → from.Post κs a x e → from.Post κs a y f → x ≡ y
+from_determined κs a x y e f = both_are

@@ -11,6 +11,7 @@ use Rattle.sheet.specs.Sheet.{valid_sheet, no_layout, counted, layout_of, told_o
 use Rattle.sheet.specs.declared.Layout.{Layout}
 use Rattle.sheet.proofs.Valid.{valid}
 use Rattle.std.specs.Prelude.{Option, Some, None, is_some}
+use Rattle.std.specs.Option.{unwrap_or}
 
 -- what holds of the counts of a valid sheet, and of no counts for any other, holds of the layout
 pub layout_cases : (F : Format) (P : Layout → Type 0) (s : List ℕ) → (valid_sheet F s ≡ true → P (counted F s)) → (valid_sheet F s ≡ false → P no_layout) → P (layout_of F s)
@@ -34,6 +35,12 @@ told_some F s l = told_cases F (λ (o : Option Layout). o ≡ Some l → (valid_
 
 pub told_none : (F : Format) (s : List ℕ) → told_of F s ≡ None → valid_sheet F s ≡ false
 told_none F s = told_cases F (λ (o : Option Layout). o ≡ None → valid_sheet F s ≡ false) s (λ e q. cc) (λ e q. e)
+
+-- the layout of any sheet is what the check answers, with no counts in place of nothing
+pub told_layout : (F : Format) (s : List ℕ) → layout_of F s ≡ unwrap_or (told_of F s) no_layout
+told_layout F s =
+    told_cases F (λ (o : Option Layout). layout_of F s ≡ unwrap_or o no_layout) s (λ e. refl)
+    (λ e. layout_cases F (λ (l : Layout). l ≡ no_layout) s (λ t. cc) (λ t. refl))
 
 -- where something is counted the sheet is valid
 counts_valid : (F : Format) (s : List ℕ) (count : Layout → ℕ) (i : ℕ) → count no_layout ≡ 0 → i < count (layout_of F s) → valid_sheet F s ≡ true

@@ -13,6 +13,7 @@ use Rattle.yard.specs.declared.End.TheVariants.{Dropped, SentHome, ToGroup, Nobo
 use Rattle.yard.specs.declared.Walked as code
 use Rattle.yard.specs.Walk.{Walk, Walked, end_number, walked_by, Tells}
 use Rattle.yard.proofs.walk.Reads as walk
+use Rattle.yard.proofs.U32FromEnd.from.Reads as from
 
 pub tells_settled : {F : Format} {w : Walk} {output output' output'' : List ℕ} {x y : Walked} → Tells F w output x output' → Tells F w output y output''
     → (x ≡ y) × (output' ≡ output'')
@@ -52,3 +53,7 @@ one_answer (Err d) (Err f) p q e = ap Err (one_number d f (ap (λ (w : Walked). 
 pub walk_determined : (κs : _) (a : _) (x y : _) (e f : _) → walk.Post κs a x e → walk.Post κs a y f → (x ≡ y) × (e.1.1.1.0.now ≡ f.1.1.1.0.now)
 walk_determined κs a x y e f p q =
     let told = tells_settled p.0 q.0 in (one_answer x y p.1 q.1 told.0, told.1)
+
+-- the number of an end
+pub from_determined : (κs : _) (a : _) (x y : _) (e f : _) → from.Post κs a x e → from.Post κs a y f → x ≡ y
+from_determined κs a x y e f = both_are
