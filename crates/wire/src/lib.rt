@@ -64,10 +64,12 @@ pub fn put64(s: &mut [u8], at: usize, v: u64)
     s[at..at + 8].copy_from_slice(&v.to_be_bytes());
 }
 
-// Copies all of `src` into `dst`, from `at` on.
+// Copies all of `src` into `dst`, from `at` on. By `copy_from_slice` the archive for C would call memmove, which its header rules out.
 pub fn copy_to(dst: &mut [u8], at: usize, src: &[u8])
     requires { at + length src.now ≤ length dst.old }
     ensures { dst.new ≡ splice dst.old at src.now }
 {
-    dst[at..at + src.len()].copy_from_slice(src);
+    for i in 0..src.len() {
+        dst[at + i] = src[i];
+    }
 }
