@@ -34,7 +34,11 @@ impl Held {
         answer: Result<Clock, Refusal>,
         out: &mut impl Write,
     ) -> io::Result<()> {
-        let Tick { number, clock, time } = before.tick(answer);
+        let Tick {
+            number,
+            clock,
+            time,
+        } = before.tick(answer);
         self.clock = clock;
         writeln!(out, " -> {number} {} {} {time}", clock.r, clock.y)
     }
